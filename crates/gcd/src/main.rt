@@ -1,13 +1,13 @@
 //! The program: the words of the command line, the real files and standard output, and the status with which it ends.
 //!
-//! What it does and answers is `gcd_run::gcd_main`, over the system's files, its standard output, its sockets and its clock. Why it
-//! ended so is then said on standard error, in the words of `gcd_why`; where memory runs out for that, no more is said, and the
-//! status is as it was.
+//! What it does and answers is `gcd_run::account_of`, over the system's files, its standard output, its sockets and its clock. Standard
+//! error then says why it ended so, in the words of `gcd_why`, by the plan and the machine that the call hands on. If memory runs out for
+//! that, it says no more, and the status stays as it was.
 //!
 //! The helpers that touch the system promise nothing: no contract says what the words of a command line are, what its files
 //! hold, or with which status a program ends. So `words_of` and `main` have no clauses, and of the look-up beside the
 //! script (`ScriptShelf` for files, `ScriptPoller` for feeds) only what each shelf and poller promises is proved. What is
-//! proved beside it is that the texts handed to `gcd_main` are the words that were read (`texts`); the rest is tried by the
+//! proved beside it is that the texts handed to `account_of` are the words that were read (`texts`); the rest is tried by the
 //! stored run and the examples.
 //!
 //! Where an item names no manual page, what it says is this project's own rule.
@@ -20,11 +20,11 @@ mod saying;
 mod script_poller;
 mod script_shelf;
 
-use crate::saying::{say_ended, say_status};
+use crate::saying::{Call, say_ended, say_status};
 use crate::script_poller::ScriptPoller;
 use crate::script_shelf::ScriptShelf;
 use gcd_outer::Poller;
-use gcd_run::{Status, gcd_main};
+use gcd_run::{Status, account_of};
 use gcd_system::{NetPoller, StdoutSink, SystemClock};
 use gcd_words::{Request, read_words};
 use std::alloc::{AllocError, Global};
@@ -67,16 +67,15 @@ fn poller_of<'a, R: Files<File = File> + Net + Eprint>(
     Some(ScriptPoller::new(rt, alloc, feeds, script))
 }
 
-// The script's name and how many contents are kept for what is said at the end: the script, and the journal that is judged. An `Err`
-// comes only where memory runs out.
-fn asked<'a>(alloc: Global, words: &'a [&'a str]) -> Result<(&'a str, usize), AllocError> {
-    Ok(match read_words(alloc, words)? {
+// The script's name, and how many contents are kept for the sentences at the end: the script, and the journal that is judged.
+fn kept_of<'a>(request: Option<Request<'a>>) -> (&'a str, usize) {
+    match request {
         Some(Request::Run(request)) => (request.script, 1),
         Some(Request::Check(request)) => (request.script, 2),
         Some(Request::Big(_)) => ("", 0),
         Some(Request::Front(request)) => (request.script, 1),
         None => ("", 0),
-    })
+    }
 }
 
 // The words; none where they are no text, so that they name no command. An `Err` comes only where memory runs out.
@@ -102,16 +101,17 @@ fn main(rt: HostRuntime) -> ExitCode {
     let Ok(texts) = texts(rt.alloc(), &words) else {
         return without_memory(&rt);
     };
-    let Ok((script, keeps)) = asked(rt.alloc(), &texts) else {
+    let Ok(request) = read_words(rt.alloc(), &texts) else {
         return without_memory(&rt);
     };
+    let (script, keeps) = kept_of(request);
     let mut shelf = ScriptShelf::new(&rt, rt.alloc(), script, keeps);
     let mut out = StdoutSink::new(&rt);
     let Some(mut poller) = poller_of(&rt, rt.alloc(), script) else {
         return without_memory(&rt);
     };
     let mut clock = SystemClock::new(&rt);
-    let ended = gcd_main(
+    let account = account_of(
         &rt,
         rt.alloc(),
         &texts,
@@ -120,9 +120,14 @@ fn main(rt: HostRuntime) -> ExitCode {
         &mut poller,
         &mut clock,
     );
+    let call = Call {
+        words: &texts,
+        request,
+        account: &account,
+    };
     match shelf.missed() {
-        Some(missed) => say_ended(&rt, rt.alloc(), &texts, &ended, &shelf, Some(missed)),
-        None => say_ended(&rt, rt.alloc(), &texts, &ended, &shelf, poller.missed()),
+        Some(missed) => say_ended(&rt, rt.alloc(), call, &shelf, Some(missed)),
+        None => say_ended(&rt, rt.alloc(), call, &shelf, poller.missed()),
     }
-    ExitCode::from(ended.status)
+    ExitCode::from(account.ended.status)
 }

@@ -2,15 +2,14 @@
 
 use crate::missed::Missed;
 use crate::script_shelf::ScriptShelf;
-use gcd_event::Entry;
 use gcd_plan::{MAX_EVENTS, MAX_SCRIPT_BYTES, Plan};
-use gcd_run::{Ended, Status};
+use gcd_run::{Account, Found, Status};
 use gcd_script::parse;
 use gcd_why::{
-    CUT_OFF, NO_MEMORY, cause_at, journal_cause, why_event, why_journal, why_run, why_script,
-    why_words,
+    CUT_OFF, NO_MEMORY, RunEnd, cause_at, journal_cause, why_ended, why_event, why_journal, why_run,
+    why_script, why_words,
 };
-use gcd_words::{CheckRequest, Request, read_words};
+use gcd_words::{CheckRequest, Request};
 use std::alloc::Global;
 use std::fmt::Display;
 use std::rt::Files;
@@ -45,71 +44,96 @@ fn plan_of(alloc: Global, script: &[u8]) -> Option<Plan> {
     parse(alloc, script).ok()
 }
 
-// Says why the script is refused at that line.
-fn say_script<R: Eprint>(rt: &R, alloc: Global, name: &str, script: &[u8], line: u32) {
-    let Ok(cause) = cause_at(alloc, script, line) else {
-        return;
-    };
-    if let Ok(sentence) = why_script(alloc, name, script, line, cause) {
-        say(rt, &sentence);
-    }
-}
-
-// Why a run of the script, of at most so many events, ended as it did.
+// Why a run of the script, of at most so many events, ended as it did. If the call handed on no machine, the events are replayed.
 fn say_run<R: Eprint>(
     rt: &R,
     alloc: Global,
     most: u32,
     name: &str,
     script: &[u8],
-    events: &[Entry],
+    account: &Account,
 ) {
-    let Some(plan) = plan_of(alloc, script) else {
-        return;
-    };
+    let events = account.ended.journal.as_slice();
     if events.len() > MAX_EVENTS as usize {
         return;
     }
-    if let Ok(said) = why_run(alloc, &plan, most, name, script, events) {
+    let said = match &account.found {
+        Found::Nothing => return,
+        Found::Plan(plan) => why_run(alloc, plan, most, name, script, events),
+        Found::Run { plan, machine } => {
+            let end = RunEnd {
+                plan,
+                machine,
+                events,
+                most,
+            };
+            why_ended(alloc, end, name, script)
+        }
+    };
+    if let Ok(said) = said {
         for sentence in said.as_slice() {
             say(rt, sentence);
         }
     }
 }
 
-// Why a journal is refused: a line of it, or an event.
-fn say_journal<R: Eprint>(
+// Why a text is no journal of the script, at that line.
+fn say_journal<R: Eprint + Files>(
     rt: &R,
     alloc: Global,
     name: &str,
-    plan: &Plan,
-    text: &[u8],
-    at: (u32, u32),
-    events: &[Entry],
+    line: u32,
+    shelf: &ScriptShelf<R>,
 ) {
-    if at.1 == 1 {
-        let Ok(cause) = journal_cause(alloc, plan, MAX_EVENTS, text) else {
+    let script = shelf.kept(0).unwrap_or(b"".as_slice());
+    let text = shelf.kept(1).unwrap_or(b"".as_slice());
+    if let Some(plan) = plan_of(alloc, script) {
+        let Ok(cause) = journal_cause(alloc, &plan, MAX_EVENTS, text) else {
             return;
         };
-        if let Ok(sentence) = why_journal(alloc, MAX_EVENTS, name, text, at.0, cause) {
+        if let Ok(sentence) = why_journal(alloc, MAX_EVENTS, name, text, line, cause) {
             say(rt, &sentence);
         }
-        return;
-    }
-    if events.len() > MAX_EVENTS as usize {
-        return;
-    }
-    if let Ok(Some(said)) = why_event(alloc, plan, name, events) {
-        say(rt, &said.sentence);
     }
 }
 
-// Why a script or a journal is refused.
+// Why an event of a journal is refused.
+fn say_event<R: Eprint>(rt: &R, alloc: Global, name: &str, account: &Account) {
+    let events = account.ended.journal.as_slice();
+    if events.len() > MAX_EVENTS as usize {
+        return;
+    }
+    if let Found::Plan(plan) = &account.found {
+        if let Ok(Some(said)) = why_event(alloc, plan, name, events) {
+            say(rt, &said.sentence);
+        }
+    }
+}
+
+// Why a script is refused, at that line.
+fn say_script<R: Eprint + Files>(
+    rt: &R,
+    alloc: Global,
+    name: &str,
+    line: u32,
+    shelf: &ScriptShelf<R>,
+) {
+    let text = shelf.kept(0).unwrap_or(b"".as_slice());
+    let Ok(cause) = cause_at(alloc, text, line) else {
+        return;
+    };
+    if let Ok(sentence) = why_script(alloc, name, text, line, cause) {
+        say(rt, &sentence);
+    }
+}
+
+// Why a script or a journal is refused, at that place.
 fn say_refused<R: Eprint + Files>(
     rt: &R,
     alloc: Global,
     request: Request,
-    ended: &Ended,
+    account: &Account,
+    at: (u32, u32),
     shelf: &ScriptShelf<R>,
 ) {
     let (script, journal) = match request {
@@ -118,29 +142,25 @@ fn say_refused<R: Eprint + Files>(
         Request::Big(_) => return,
         Request::Front(request) => (request.script, ""),
     };
-    let Some(at) = ended.at else {
-        return;
-    };
-    let text = shelf.kept(0).unwrap_or(b"".as_slice());
-    if ended.status == Status::ScriptRefused.code() {
-        return say_script(rt, alloc, script, text, at.0);
-    }
-    if let Some(plan) = plan_of(alloc, text) {
-        let read = shelf.kept(1).unwrap_or(b"".as_slice());
-        say_journal(rt, alloc, journal, &plan, read, at, &ended.journal);
+    if account.ended.status == Status::ScriptRefused.code() {
+        say_script(rt, alloc, script, at.0, shelf);
+    } else if at.1 == 1 {
+        say_journal(rt, alloc, journal, at.0, shelf);
+    } else {
+        say_event(rt, alloc, journal, account);
     }
 }
 
-// Why the words ended as they did, where they name a command.
+// Why the words ended as they did, if they name a command.
 fn say_request<R: Eprint + Files>(
     rt: &R,
     alloc: Global,
     request: Request,
-    ended: &Ended,
+    account: &Account,
     shelf: &ScriptShelf<R>,
 ) {
-    if ended.at.is_some() {
-        return say_refused(rt, alloc, request, ended, shelf);
+    if let Some(at) = account.ended.at {
+        return say_refused(rt, alloc, request, account, at, shelf);
     }
     let (name, most) = match request {
         Request::Run(request) => (request.script, request.most),
@@ -149,30 +169,41 @@ fn say_request<R: Eprint + Files>(
         Request::Front(request) => (request.script, MAX_EVENTS),
     };
     if let Some(script) = shelf.kept(0) {
-        say_run(rt, alloc, most, name, script, &ended.journal);
+        say_run(rt, alloc, most, name, script, account);
     }
 }
 
-/// Says why the call ended as it did. Where memory runs out no more is said.
+/// A call that has ended.
+#[derive(Clone, Copy)]
+pub struct Call<'a> {
+    /// The words.
+    pub words: &'a [&'a str],
+    /// What the words ask for.
+    pub request: Option<Request<'a>>,
+    /// What the call answered, and what it found out.
+    pub account: &'a Account,
+}
+
+/// Says why the call ended as it did. If memory runs out, it says no more.
 pub fn say_ended<R: Eprint + Files>(
     rt: &R,
     alloc: Global,
-    words: &[&str],
-    ended: &Ended,
+    call: Call,
     shelf: &ScriptShelf<R>,
     missed: Option<&Missed>,
 ) {
-    if ended.status == Status::CutOff.code() {
+    let status = call.account.ended.status;
+    if status == Status::CutOff.code() {
         say_text(rt, CUT_OFF);
-    } else if ended.status == Status::NoMemory.code() {
+    } else if status == Status::NoMemory.code() {
         say_text(rt, NO_MEMORY);
-    } else if ended.status == Status::NoCommand.code() {
-        say(rt, &why_words(words));
-    } else if ended.status == Status::Unread.code() {
+    } else if status == Status::NoCommand.code() {
+        say(rt, &why_words(call.words));
+    } else if status == Status::Unread.code() {
         if let Some(missed) = missed {
             say(rt, &missed.unread());
         }
-    } else if let Ok(Some(request)) = read_words(alloc, words) {
-        say_request(rt, alloc, request, ended, shelf);
+    } else if let Some(request) = call.request {
+        say_request(rt, alloc, request, call.account, shelf);
     }
 }

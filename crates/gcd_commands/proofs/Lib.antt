@@ -8,3 +8,4 @@ pub mod Counting
 pub mod Hears
 pub mod Lines
 pub mod Totals
+pub mod Hands

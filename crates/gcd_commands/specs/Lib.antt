@@ -10,3 +10,4 @@ pub mod Pages
 pub mod Listens
 pub mod Checks
 pub mod Commands
+pub mod Hands

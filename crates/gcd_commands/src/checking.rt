@@ -5,10 +5,13 @@ ghost use Rattle.gcd_outer.specs.Outside.{seen};
 ghost use Rattle.gcd_commands.specs.Calls.{MadeLoads};
 ghost use Rattle.gcd_commands.specs.Checks.{IsCheckCount, IsJournalAt, IsJudged, StopsJournal};
 ghost use Rattle.gcd_commands.specs.Commands.{CheckStops, CheckTells};
-ghost use Rattle.gcd_commands.specs.Loads.{SomeLoads};
+ghost use Rattle.gcd_commands.specs.Hands.{HandsPlan};
+ghost use Rattle.gcd_commands.specs.Loads.{IsPlanOf, SomeLoads};
 ghost use Rattle.gcd_commands.specs.Stories.{end_of};
+ghost use Rattle.gcd_commands.specs.declared.found.Found.TheVariants.{Plan as OfPlan};
 ghost use Rattle.gcd_commands.specs.declared.stop.Stop.TheVariants.{Memory};
 
+use crate::found::Found;
 use crate::load::{load_plan, load_whole};
 use crate::stop::Stop;
 use crate::story::Story;
@@ -40,14 +43,17 @@ fn load_journal<S: Shelf>(
     }
 }
 
-// The events are judged. An `Err` comes where memory runs out.
-fn judge(alloc: Global, plan: &Plan, journal: Vec<Entry>) -> Result<Story, AllocError>
+// Judges the events, and hands on the plan. Returns `Err` if memory runs out.
+fn judge(alloc: Global, plan: Plan, journal: Vec<Entry>) -> Result<Story, AllocError>
     requires few { length journal.items ≤ max_events }
-    ensures { IfOk result (λ s. IsJudged plan.now journal.items (end_of s)) }
+    ensures judged { IfOk result (λ s. IsJudged plan journal.items (end_of s)) }
+    ensures found { IfOk result (λ s. s.found ≡ OfPlan plan) }
 {
-    match check(alloc, plan, &journal) {
-        Ok(state) => Story::lawful(alloc, journal, state),
-        Err(CheckFault::Unlawful { index }) => Story::unlawful(alloc, journal, index),
+    match check(alloc, &plan, &journal) {
+        Ok(state) => Story::lawful(alloc, journal, state, Found::Plan(plan)),
+        Err(CheckFault::Unlawful { index }) => {
+            Story::unlawful(alloc, journal, index, Found::Plan(plan))
+        }
         Err(CheckFault::Memory) => Err(AllocError),
     }
 }
@@ -59,18 +65,19 @@ fn check_journal<S: Shelf>(
     shelf: &mut S,
 ) -> Result<Story, Stop>
     ensures reported { IfOk result (λ s. CheckTells (seen S.tells S.state shelf.old shelf.new) request.entry (end_of s)) }
+    ensures found { IfOk result (λ s. HandsPlan (IsPlanOf (seen S.tells S.state shelf.old shelf.new) request.entry.script.now) (end_of s) s.found) }
     ensures stopped { IfErr result (CheckStops (seen S.tells S.state shelf.old shelf.new) request.entry) }
 {
     let plan = load_plan(alloc, shelf, request.script)?;
     let journal = load_journal(alloc, &plan, shelf, request.journal)?;
-    match judge(alloc, &plan, journal) {
+    match judge(alloc, plan, journal) {
         Ok(story) => Ok(story),
         Err(AllocError) => Err(Stop::Memory),
     }
 }
 
 /// Does `check SCRIPT JOURNAL`: loads the script and then the journal, each by one load, and judges the journal's events, of which there
-/// are at most as many as a run can have. No file of the script is loaded. The story has the journal that was read.
+/// are at most as many as a run can have. No file of the script is loaded. The story has the journal that was read, and hands on the plan.
 ///
 /// | status | cause |
 /// |---|---|
@@ -86,6 +93,7 @@ pub fn tell_check<S: Shelf>(
     shelf: &mut S,
 ) -> Result<Story, AllocError>
     ensures reported { IfOk result (λ s. CheckTells (seen S.tells S.state shelf.old shelf.new) request.entry (end_of s)) }
+    ensures found { IfOk result (λ s. HandsPlan (IsPlanOf (seen S.tells S.state shelf.old shelf.new) request.entry.script.now) (end_of s) s.found) }
     ensures wanting { OnErr result (SomeLoads (seen S.tells S.state shelf.old shelf.new) IsCheckCount) }
 {
     match check_journal(alloc, request, shelf) {

@@ -8,19 +8,11 @@ ghost use Rattle.gcd_turn.specs.Asked.{KeepsListens};
 ghost use Rattle.gcd_outer.specs.Outside.{seen};
 ghost use Rattle.gcd_commands.specs.Commands.{RanAlone};
 
-use gcd_event::Entry;
 use gcd_outer::{Clock, Poller};
 use gcd_workers::{Outcome, Over, run_workers};
 use std::alloc::{AllocError, Global};
 use std::sync::Wait;
 use std::thread::Threads;
-
-/// The journal of a run, of which no more is kept.
-pub fn journal_of(run: Outcome) -> Vec<Entry>
-    ensures { result.items ≡ run.journal.items }
-{
-    run.journal
-}
 
 /// Runs the plan over its files by so many workers, until it has come to its end or has `most` events. An `Err` comes where memory
 /// runs out, or the system makes no thread for a worker of a long run.

@@ -15,8 +15,12 @@ ghost use Rattle.gcd_commands.specs.End.{ran_end};
 ghost use Rattle.gcd_commands.specs.Calls.{inputs};
 ghost use Rattle.gcd_commands.specs.Commands.{FrontBegins, FrontStops, FrontTells};
 ghost use Rattle.gcd_commands.specs.Fronts.{HasIntake, RanBeside, TellsFront, sender_text, value_or_0, values_at};
+ghost use Rattle.gcd_commands.specs.Hands.{HandsPlan};
+ghost use Rattle.gcd_commands.specs.Loads.{IsPlanOf};
 ghost use Rattle.gcd_commands.specs.Stories.{end_of};
+ghost use Rattle.gcd_commands.specs.declared.found.Found.TheVariants.{Plan as OfPlan};
 
+use crate::found::Found;
 use crate::front_job::front_jobs;
 use crate::large::total;
 use crate::load::load_front;
@@ -163,36 +167,43 @@ fn text_of(
     Ok(text)
 }
 
-// The story of a run, of which no more is kept than its journal. An `Err` comes where memory runs out.
-fn story_of(alloc: Global, plan: &Plan, run: Ran, senders: u8) -> Result<Story, AllocError>
+// Tells a run, and hands on its plan. Returns `Err` if memory runs out.
+fn story_of(alloc: Global, plan: Plan, run: Ran, senders: u8) -> Result<Story, AllocError>
     requires few { (s : ℕ) → length (blocks_of_sender run.journal.items s) ≤ max_blocks }
     requires others { (b : ℕ) → is_ended run.journal.items b ≡ false → value_or_0 run.values.items b ≡ 0 }
-    requires spoken { AreSpoken plan.now run.journal.items }
-    ensures { IfOk result (λ s. end_of s ≡ ran_end run.state run.journal.items (front_text plan.now senders (value_or_0 run.values.items) run.state run.journal.items)) }
+    requires spoken { AreSpoken plan run.journal.items }
+    ensures told { IfOk result (λ s. end_of s ≡ ran_end run.state run.journal.items (front_text plan senders (value_or_0 run.values.items) run.state run.journal.items)) }
+    ensures found { IfOk result (λ s. s.found ≡ OfPlan plan) }
 {
-    let text = text_of(alloc, plan, run.state, &run.journal, &run.values, senders);
-    Story::ran(run.state, run.journal, text)
+    let text = text_of(alloc, &plan, run.state, &run.journal, &run.values, senders);
+    Story::ran(run.state, run.journal, text, Found::Plan(plan))
 }
 
-// The plan runs beside the senders. An `Err` comes where memory runs out.
+// The plan runs beside the senders. Returns `Err` if memory runs out.
 fn run_plan<R: Threads + Wait + Sync, P: Poller + Send, C: Clock + Send>(
     rt: &R,
     alloc: Global,
-    over: Over,
+    plan: Plan,
+    files: &[Vec<u8>],
     senders: Senders,
     poller: &mut P,
     clock: &mut C,
 ) -> Result<Story, AllocError>
-    requires valid { IsPlan over.plan.now }
-    requires intake { HasIntake over.plan.now senders.blocks }
-    requires most { over.most ≡ max_events }
+    requires valid { IsPlan plan }
+    requires intake { HasIntake plan senders.blocks }
     requires senders { (0 < senders.count) × (senders.count ≤ max_front_senders) }
     requires unwatched { (feed : ℕ) → (P.state poller.old).watched feed ≡ false }
-    ensures told { IfOk result (λ s. (intake : IntakeView) → over.entry.plan.now.intake ≡ Some intake → TellsFront (seen P.tells P.state poller.old poller.new) (seen C.tells C.state clock.old clock.new) over.entry.plan.now intake senders.count (end_of s)) }
+    ensures told { IfOk result (λ s. (intake : IntakeView) → plan.intake ≡ Some intake → TellsFront (seen P.tells P.state poller.old poller.new) (seen C.tells C.state clock.old clock.new) plan intake senders.count (end_of s)) }
+    ensures found { IfOk result (λ s. s.found ≡ OfPlan plan) }
     ensures kept { KeepsListens P.tells (P.state poller.old) (P.state poller.new) }
 {
+    let over = Over {
+        plan: &plan,
+        files,
+        most: MAX_EVENTS,
+    };
     let run = run_beside_senders(rt, alloc, over, senders, poller, clock)?;
-    let story = story_of(alloc, over.plan, run, senders.count)?;
+    let story = story_of(alloc, plan, run, senders.count)?;
     Ok(story)
 }
 
@@ -208,20 +219,16 @@ fn front_script<R: Threads + Wait + Sync, S: Shelf, P: Poller + Send, C: Clock +
     requires senders { (0 < request.senders) × (request.senders ≤ max_front_senders) }
     requires unwatched { (feed : ℕ) → (P.state poller.old).watched feed ≡ false }
     ensures told { IfOk result (λ s. FrontTells (inputs S.Shelf shelf.old shelf.new P.Poller poller.old poller.new C.Clock clock.old clock.new) request.entry (end_of s)) }
+    ensures found { IfOk result (λ s. HandsPlan (IsPlanOf (seen S.tells S.state shelf.old shelf.new) request.entry.script.now) (end_of s) s.found) }
     ensures stopped { IfErr result (FrontStops (seen S.tells S.state shelf.old shelf.new) request.entry) }
     ensures kept { KeepsListens P.tells (P.state poller.old) (P.state poller.new) }
 {
     let (plan, files, blocks) = load_front(alloc, shelf, request.script)?;
-    let over = Over {
-        plan: &plan,
-        files: &files,
-        most: MAX_EVENTS,
-    };
     let senders = Senders {
         count: request.senders,
         blocks,
     };
-    match run_plan(rt, alloc, over, senders, poller, clock) {
+    match run_plan(rt, alloc, plan, &files, senders, poller, clock) {
         Ok(story) => Ok(story),
         Err(AllocError) => Err(Stop::Memory),
     }
@@ -232,7 +239,7 @@ fn front_script<R: Threads + Wait + Sync, S: Shelf, P: Poller + Send, C: Clock +
 /// hands in its share of jobs for the blocks of the intake, which give 1000 s + 1, 1000 s + 2 and so on: each again until it is accepted,
 /// in order, as callers of dispatch_async(3) do. Then it shuts its mouth. A share is the number of those blocks divided by `senders`,
 /// rounded down. The story has the status of the state to which the run has come, the run's journal, and as its text a line for each
-/// sender and the report's last line.
+/// sender and the report's last line. It hands on the plan.
 ///
 /// If a step cannot be taken, no later step is tried, and the story has no journal and this status:
 ///
@@ -255,6 +262,7 @@ pub fn tell_front<R: Threads + Wait + Sync, S: Shelf, P: Poller + Send, C: Clock
     requires senders { (0 < request.senders) × (request.senders ≤ max_front_senders) }
     requires unwatched { (feed : ℕ) → (P.state poller.old).watched feed ≡ false }
     ensures told { IfOk result (λ s. FrontTells (inputs S.Shelf shelf.old shelf.new P.Poller poller.old poller.new C.Clock clock.old clock.new) request.entry (end_of s)) }
+    ensures found { IfOk result (λ s. HandsPlan (IsPlanOf (seen S.tells S.state shelf.old shelf.new) request.entry.script.now) (end_of s) s.found) }
     ensures wanting { OnErr result (FrontBegins (seen S.tells S.state shelf.old shelf.new) request.entry) }
     ensures kept { KeepsListens P.tells (P.state poller.old) (P.state poller.new) }
 {

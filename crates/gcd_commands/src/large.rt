@@ -10,9 +10,12 @@ ghost use Rattle.gcd_turn.specs.Asked.{KeepsListens};
 ghost use Rattle.gcd_outer.specs.Outside.{seen};
 ghost use Rattle.gcd_commands.specs.End.{large_file, ran_end};
 ghost use Rattle.gcd_commands.specs.Runs.{BigEnds, IsLargeScript};
+ghost use Rattle.gcd_commands.specs.Hands.{HandsRun};
 ghost use Rattle.gcd_commands.specs.Stories.{end_of};
+ghost use Rattle.gcd_commands.specs.declared.found.Found.TheVariants.{Run};
 
-use crate::engine::{journal_of, run_by};
+use crate::engine::run_by;
+use crate::found::Found;
 use crate::story::{Story, bytes_of};
 use gcd_journal::write_last_line;
 use gcd_outer::{Clock, Poller};
@@ -88,21 +91,28 @@ fn text_of(alloc: Global, plan: &Plan, run: &Outcome, count: u16) -> Result<Vec<
     Ok(text)
 }
 
-// The story of a run of the large script, of which no more is kept than its journal. An `Err` comes where memory runs out.
-fn story_of(alloc: Global, plan: &Plan, run: Outcome, count: u16) -> Result<Story, AllocError>
+// Tells a run of the large script, and hands on its plan and its machine. Returns `Err` if memory runs out.
+fn story_of(alloc: Global, plan: Plan, run: Outcome, count: u16) -> Result<Story, AllocError>
     requires few { length run.values.items ≤ max_blocks }
-    requires spoken { AreSpoken plan.now run.journal.items }
-    ensures { IfOk result (λ s. end_of s ≡ ran_end run.state run.journal.items (codes "blocks " ++ (decimal count ++ (line_end
-        ++ (codes "total " ++ (decimal (sum run.values.items) ++ (line_end ++ last_line plan.now run.state run.journal.items))))))) }
+    requires spoken { AreSpoken plan run.journal.items }
+    ensures told { IfOk result (λ s. end_of s ≡ ran_end run.state run.journal.items (codes "blocks " ++ (decimal count ++ (line_end
+        ++ (codes "total " ++ (decimal (sum run.values.items) ++ (line_end ++ last_line plan run.state run.journal.items))))))) }
+    ensures found { IfOk result (λ s. s.found ≡ Run plan run.machine) }
 {
-    let text = text_of(alloc, plan, &run, count);
-    let state = run.state;
-    Story::ran(state, journal_of(run), text)
+    let text = text_of(alloc, &plan, &run, count);
+    let Outcome {
+        journal,
+        values: _,
+        state,
+        machine,
+    } = run;
+    Story::ran(state, journal, text, Found::Run { plan, machine })
 }
 
 /// Does `big N`: makes the large script of `count` blocks and the bytes of its file, and runs its plan by at most `workers` workers, from 1
 /// to 64, up to as many events as a run can have. Nothing is loaded, and nobody listens. The story has the status of the state to which
-/// the run has come, the run's journal, and as its text the number of blocks, the total of their values and the report's last line.
+/// the run has come, the run's journal, and as its text the number of blocks, the total of their values and the report's last line. It
+/// hands on the plan and the machine that stands for the journal.
 ///
 /// Returns `Err` if memory runs out, before the run or in it, or if the system makes no thread for a worker of a long run. The caller
 /// watches no feed of the poller yet.
@@ -117,6 +127,7 @@ pub fn tell_large<R: Threads + Wait + Sync, P: Poller, C: Clock>(
     requires count { (0 < request.count) × (request.count < max_blocks) }
     requires workers { (0 < request.workers) × (request.workers ≤ max_workers) }
     ensures reported { IfOk result (λ s. BigEnds (seen P.tells P.state poller.old poller.new) (seen C.tells C.state clock.old clock.new) request.count request.workers (end_of s)) }
+    ensures found { IfOk result (λ s. HandsRun (IsLargeScript request.count) (end_of s) s.found) }
     ensures kept { KeepsListens P.tells (P.state poller.old) (P.state poller.new) }
 {
     let plan = large_plan(alloc, u32::from(request.count))?;
@@ -127,6 +138,6 @@ pub fn tell_large<R: Threads + Wait + Sync, P: Poller, C: Clock>(
         most: MAX_EVENTS,
     };
     let run = run_by(rt, alloc, over, request.workers, poller, clock)?;
-    let story = story_of(alloc, &plan, run, request.count)?;
+    let story = story_of(alloc, plan, run, request.count)?;
     Ok(story)
 }

@@ -6,7 +6,8 @@
 //! | [`tell_check`] | loads a script and a journal, and judges the journal |
 //! | [`tell_large`] | runs the large script over a file that is made |
 //! | [`tell_front`] | runs a script with an intake beside threads that send jobs for it |
-//! | [`Story`] | what each of them gives: a status, a journal, a place and a text; [`Story::usage`] is that of words that name no command |
+//! | [`Story`] | what each of them gives: a status, a journal, a place, a text and what was found out; [`Story::usage`] is that of words that name no command |
+//! | [`Found`] | what each of them found out and hands on: the plan, and of a run the machine too |
 //! | [`Status`] | the ways to end by name, each with its number ([`Status::code`]) |
 //!
 //! `run` loads a script and reads it as a plan (`gcd_script`), loads its files in their order, lets the poller listen if an address is
@@ -17,7 +18,7 @@
 //! (`Dispatch::run_beside` of `gcd_workers`): each sends its jobs by a mouth of a front (`gcd_front`), which has room for all of them, and
 //! shuts it. A command ends at the first step that cannot go on.
 //!
-//! The model of a story is an `End` (`end_of`): the same four, as plain values. The contracts speak of what the call saw of the shelf,
+//! The model of a story is an `End` (`end_of`): the first four, as plain values. The contracts speak of what the call saw of the shelf,
 //! the poller and the clock (`gcd_outer`), before and after, and of how many loads and listens it made (`Calls`). `inputs` makes one value
 //! of the three; `S.Shelf` in a clause means the ghost members of the shelf, and so on. The words of the clauses are in `specs/Commands`:
 //! each says that some calls were made, and gives the relation of the command for them.
@@ -28,6 +29,7 @@
 //! | `reported` of `tell_check` (`CheckTells`: `CheckEnds`) | why it stopped, and the story of that stop; or script and journal were loaded and read, and the story says that the events are lawful, or which is the first that is not permitted |
 //! | `reported` of `tell_large` (`BigEnds`) | the plan is that of the large script with so many blocks, its files are the large file, it ran, and the story is that of its journal and state |
 //! | `told` of `tell_front` (`FrontTells`: `FrontEnds`) | as `reported` of `tell_run`; each accepted job is one of a sender, those of each sender stand in its order, a block of the intake that has ended has the value of its sender's job, and if the run has come to rest each sender's jobs are all accepted (`HearsSenders`) |
+//! | `found` (`HandsRun`, `HandsPlan`) | the story of `run` and `big` hands on the plan that ran and a machine that stands for the story's journal; that of `check` and `front` hands on the plan; a story of a stop hands on nothing |
 //! | `wanting` (`RunBegins`, `IsCheckCount`, `FrontBegins`) | if the answer is `Err`, which loads and listens may have been made |
 //! | `kept` of `tell_large`, `tell_front` | no listen was made, and the poller's count of faults did not fall |
 //!
@@ -44,6 +46,7 @@
 
 mod checking;
 mod engine;
+mod found;
 mod front;
 mod front_job;
 mod large;
@@ -55,6 +58,7 @@ mod stop;
 mod story;
 
 pub use checking::tell_check;
+pub use found::Found;
 pub use front::tell_front;
 pub use large::tell_large;
 pub use running::tell_run;

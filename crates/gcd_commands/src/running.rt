@@ -17,9 +17,13 @@ ghost use Rattle.gcd_commands.specs.Commands.{RunBegins, RunStops, RunTells};
 ghost use Rattle.gcd_commands.specs.Listens.{FailsToListen, Listened};
 ghost use Rattle.gcd_commands.specs.End.{ran_end, run_text};
 ghost use Rattle.gcd_commands.specs.Runs.{TellsRun};
+ghost use Rattle.gcd_commands.specs.Hands.{HandsRun, IsRunOf};
+ghost use Rattle.gcd_commands.specs.Loads.{IsPlanOf};
 ghost use Rattle.gcd_commands.specs.Stories.{end_of};
+ghost use Rattle.gcd_commands.specs.declared.found.Found.TheVariants.{Run};
 
-use crate::engine::{journal_of, run_by};
+use crate::engine::run_by;
+use crate::found::Found;
 use crate::load::load_all;
 use crate::stop::Stop;
 use crate::story::Story;
@@ -95,46 +99,59 @@ fn text_of(
     Ok(text)
 }
 
-// The story of a run, of which no more is kept than its journal. An `Err` comes where memory runs out.
+// Tells a run, and hands on its plan and its machine. Returns `Err` if memory runs out.
 fn story_of(
     alloc: Global,
-    plan: &Plan,
+    plan: Plan,
     run: Outcome,
     with_journal: bool,
 ) -> Result<Story, AllocError>
-    requires valid { IsPlan plan.now }
-    requires lawful { IsLawful plan.now run.journal.items }
+    requires valid { IsPlan plan }
+    requires lawful { IsLawful plan run.journal.items }
     requires few { length run.journal.items ≤ max_events }
-    requires count { length run.values.items ≡ length plan.now.blocks }
-    requires stands { StandsFor run.machine plan.now run.journal.items }
-    ensures { (contents : List (List ℕ)) → HasState plan.now run.journal.items run.state
-        → ((b : ℕ) → has_given plan.now run.journal.items b ≡ true → slice_get run.values.items b ≡ Some (value_of plan.now contents b))
-        → IfOk result (λ s. end_of s ≡ ran_end run.state run.journal.items (run_text with_journal plan.now contents run.state run.journal.items)) }
+    requires count { length run.values.items ≡ length plan.blocks }
+    requires stands { StandsFor run.machine plan run.journal.items }
+    ensures told { (contents : List (List ℕ)) → HasState plan run.journal.items run.state
+        → ((b : ℕ) → has_given plan run.journal.items b ≡ true → slice_get run.values.items b ≡ Some (value_of plan contents b))
+        → IfOk result (λ s. end_of s ≡ ran_end run.state run.journal.items (run_text with_journal plan contents run.state run.journal.items)) }
+    ensures found { IfOk result (λ s. s.found ≡ Run plan run.machine) }
 {
-    let text = text_of(alloc, plan, &run, with_journal);
-    let state = run.state;
-    Story::ran(state, journal_of(run), text)
+    let text = text_of(alloc, &plan, &run, with_journal);
+    let Outcome {
+        journal,
+        values: _,
+        state,
+        machine,
+    } = run;
+    Story::ran(state, journal, text, Found::Run { plan, machine })
 }
 
 // The plan runs over its files, with at most so many events. An `Err` comes where memory runs out.
 fn run_plan<R: Threads + Wait + Sync, P: Poller, C: Clock>(
     rt: &R,
     alloc: Global,
-    over: Over,
+    plan: Plan,
+    files: &[Vec<u8>],
     request: RunRequest,
     poller: &mut P,
     clock: &mut C,
 ) -> Result<Story, AllocError>
-    requires valid { IsPlan over.plan.now }
-    requires files { length over.files.now ≡ length over.plan.now.files }
+    requires valid { IsPlan plan }
+    requires files { length files.now ≡ length plan.files }
     requires workers { (0 < request.workers) × (request.workers ≤ max_workers) }
-    requires most { (0 < over.most) × (over.most ≤ max_events) }
+    requires most { (0 < request.most) × (request.most ≤ max_events) }
     requires unwatched { (feed : ℕ) → (P.state poller.old).watched feed ≡ false }
-    ensures reported { IfOk result (λ s. TellsRun (seen P.tells P.state poller.old poller.new) (seen C.tells C.state clock.old clock.new) over.entry.plan.now request.entry.workers over.entry.most AcceptsNone (run_text request.entry.journal over.entry.plan.now (map (λ f. f.items) over.entry.files.now)) (end_of s)) }
+    ensures reported { IfOk result (λ s. TellsRun (seen P.tells P.state poller.old poller.new) (seen C.tells C.state clock.old clock.new) plan request.entry.workers request.entry.most AcceptsNone (run_text request.entry.journal plan (map (λ f. f.items) files.now)) (end_of s)) }
+    ensures found { IfOk result (λ s. IsRunOf plan s.journal.items s.found) }
     ensures kept { KeepsListens P.tells (P.state poller.old) (P.state poller.new) }
 {
+    let over = Over {
+        plan: &plan,
+        files,
+        most: request.most,
+    };
     let run = run_by(rt, alloc, over, request.workers, poller, clock)?;
-    let story = story_of(alloc, over.plan, run, request.journal)?;
+    let story = story_of(alloc, plan, run, request.journal)?;
     Ok(story)
 }
 
@@ -151,16 +168,12 @@ fn run_script<R: Threads + Wait + Sync, S: Shelf, P: Poller, C: Clock>(
     requires workers { (0 < request.workers) × (request.workers ≤ max_workers) }
     requires most { (0 < request.most) × (request.most ≤ max_events) }
     ensures reported { IfOk result (λ s. RunTells (inputs S.Shelf shelf.old shelf.new P.Poller poller.old poller.new C.Clock clock.old clock.new) request.entry (end_of s)) }
+    ensures found { IfOk result (λ s. HandsRun (IsPlanOf (seen S.tells S.state shelf.old shelf.new) request.entry.script.now) (end_of s) s.found) }
     ensures stopped { IfErr result (RunStops (inputs S.Shelf shelf.old shelf.new P.Poller poller.old poller.new C.Clock clock.old clock.new) request.entry) }
 {
     let (plan, files) = load_all(alloc, shelf, request.script)?;
     listen_at(poller, request.listen)?;
-    let over = Over {
-        plan: &plan,
-        files: &files,
-        most: request.most,
-    };
-    match run_plan(rt, alloc, over, request, poller, clock) {
+    match run_plan(rt, alloc, plan, &files, request, poller, clock) {
         Ok(story) => Ok(story),
         Err(AllocError) => Err(Stop::Memory),
     }
@@ -168,7 +181,8 @@ fn run_script<R: Threads + Wait + Sync, S: Shelf, P: Poller, C: Clock>(
 
 /// Does `run SCRIPT`: loads the script and then each file of its plan, in order, each by one load; listens at the address, if one is
 /// given; and runs the plan by at most `workers` workers, from 1 to 64, up to `most` events. The story has the status of the state to
-/// which the run has come, the run's journal, and as its text the report, after the journal's text if that is asked for.
+/// which the run has come, the run's journal, and as its text the report, after the journal's text if that is asked for. It hands on the
+/// plan and the machine that stands for the journal.
 ///
 /// If a step cannot be taken, no later step is tried, and the story has no journal and this status:
 ///
@@ -191,6 +205,7 @@ pub fn tell_run<R: Threads + Wait + Sync, S: Shelf, P: Poller, C: Clock>(
     requires workers { (0 < request.workers) × (request.workers ≤ max_workers) }
     requires most { (0 < request.most) × (request.most ≤ max_events) }
     ensures reported { IfOk result (λ s. RunTells (inputs S.Shelf shelf.old shelf.new P.Poller poller.old poller.new C.Clock clock.old clock.new) request.entry (end_of s)) }
+    ensures found { IfOk result (λ s. HandsRun (IsPlanOf (seen S.tells S.state shelf.old shelf.new) request.entry.script.now) (end_of s) s.found) }
     ensures wanting { OnErr result (RunBegins (inputs S.Shelf shelf.old shelf.new P.Poller poller.old poller.new C.Clock clock.old clock.new) request.entry) }
 {
     match run_script(rt, alloc, request, shelf, poller, clock) {

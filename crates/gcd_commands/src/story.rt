@@ -2,13 +2,14 @@
 ghost use Rattle.std.specs.Prelude.{◌≡◌, ℕ, List, Some, IfOk};
 ghost use Rattle.gcd_commands.specs.End.{state_word};
 
+use crate::found::Found;
 use crate::status::Status;
 use crate::stop::Stop;
 use gcd_event::Entry;
 use gcd_history::State;
 use std::alloc::{AllocError, Global};
 
-/// What a command tells: how the call ends, before anything is written.
+/// What a command tells: how the call ends, before anything is written, and what the command found out.
 #[derive(Drop)]
 pub struct Story {
     /// The status with which the call ends if the text can be written.
@@ -20,6 +21,8 @@ pub struct Story {
     pub at: Option<(u32, u32)>,
     /// The text to write, whole.
     pub text: Vec<u8>,
+    /// What the command found out.
+    pub found: Found,
 }
 
 /// The bytes of a text.
@@ -31,22 +34,26 @@ pub fn bytes_of(alloc: Global, text: &str) -> Result<Vec<u8>, AllocError>
 
 impl Story {
     ghost use Rattle.gcd_commands.specs.Stories.{end_of};
+    ghost use Rattle.gcd_commands.specs.declared.found.Found.TheVariants.{Nothing};
     ghost use Rattle.gcd_commands.specs.End.{plain_end, usage_end, read_fault, refused_end, no_journal_end, no_intake_end, stop_end, ran_end, lawful_end, unlawful_end};
 
     fn plain(alloc: Global, status: Status, text: &str) -> Result<Self, AllocError>
-        ensures { IfOk result (λ s. end_of s ≡ plain_end status text.now) }
+        ensures told { IfOk result (λ s. end_of s ≡ plain_end status text.now) }
+        ensures found { IfOk result (λ s. s.found ≡ Nothing) }
     {
         Ok(Story {
             status,
             journal: Vec::new(alloc),
             at: None,
             text: bytes_of(alloc, text)?,
+            found: Found::Nothing,
         })
     }
 
     /// Tells the usage line, with `NoCommand`: what a call answers if its words name no command. Returns `Err` if memory runs out.
     pub fn usage(alloc: Global) -> Result<Self, AllocError>
-        ensures { IfOk result (λ s. end_of s ≡ usage_end) }
+        ensures told { IfOk result (λ s. end_of s ≡ usage_end) }
+        ensures found { IfOk result (λ s. s.found ≡ Nothing) }
     {
         Story::plain(
             alloc,
@@ -56,19 +63,22 @@ impl Story {
     }
 
     fn read_fault(alloc: Global) -> Result<Self, AllocError>
-        ensures { IfOk result (λ s. end_of s ≡ read_fault) }
+        ensures told { IfOk result (λ s. end_of s ≡ read_fault) }
+        ensures found { IfOk result (λ s. s.found ≡ Nothing) }
     {
         Story::plain(alloc, Status::Unread, "read fault\n")
     }
 
     fn no_intake(alloc: Global) -> Result<Self, AllocError>
-        ensures { IfOk result (λ s. end_of s ≡ no_intake_end) }
+        ensures told { IfOk result (λ s. end_of s ≡ no_intake_end) }
+        ensures found { IfOk result (λ s. s.found ≡ Nothing) }
     {
         Story::plain(alloc, Status::NoIntake, "no intake\n")
     }
 
     fn refused(alloc: Global, line: u32, code: u8) -> Result<Self, AllocError>
-        ensures { IfOk result (λ s. end_of s ≡ refused_end line code) }
+        ensures told { IfOk result (λ s. end_of s ≡ refused_end line code) }
+        ensures found { IfOk result (λ s. s.found ≡ Nothing) }
     {
         let text = format!(in alloc; "script refused: line {line} code {code}\n")?;
         Ok(Story {
@@ -76,11 +86,13 @@ impl Story {
             journal: Vec::new(alloc),
             at: Some((line, u32::from(code))),
             text: bytes_of(alloc, text.as_str())?,
+            found: Found::Nothing,
         })
     }
 
     fn no_journal(alloc: Global, line: u32) -> Result<Self, AllocError>
-        ensures { IfOk result (λ s. end_of s ≡ no_journal_end line) }
+        ensures told { IfOk result (λ s. end_of s ≡ no_journal_end line) }
+        ensures found { IfOk result (λ s. s.found ≡ Nothing) }
     {
         let text = format!(in alloc; "journal refused: line {line}\n")?;
         Ok(Story {
@@ -88,12 +100,14 @@ impl Story {
             journal: Vec::new(alloc),
             at: Some((line, 1)),
             text: bytes_of(alloc, text.as_str())?,
+            found: Found::Nothing,
         })
     }
 
     /// The call stopped. An `Err` comes where memory runs out.
     pub(crate) fn stopped(alloc: Global, stop: Stop) -> Result<Self, AllocError>
-        ensures { IfOk result (λ s. stop_end stop ≡ Some (end_of s)) }
+        ensures told { IfOk result (λ s. stop_end stop ≡ Some (end_of s)) }
+        ensures found { IfOk result (λ s. s.found ≡ Nothing) }
     {
         match stop {
             Stop::Unread => Story::read_fault(alloc),
@@ -104,19 +118,22 @@ impl Story {
         }
     }
 
-    /// A run that has come to this state, with what is told of it, where memory sufficed for that.
+    /// Tells a run that has come to this state, by a text, if memory sufficed for that.
     pub(crate) fn ran(
         state: State,
         journal: Vec<Entry>,
         text: Result<Vec<u8>, AllocError>,
+        found: Found,
     ) -> Result<Self, AllocError>
-        ensures { (reported : List ℕ) → IfOk text (λ t. t.items ≡ reported) → IfOk result (λ s. end_of s ≡ ran_end state journal.items reported) }
+        ensures told { (reported : List ℕ) → IfOk text (λ t. t.items ≡ reported) → IfOk result (λ s. end_of s ≡ ran_end state journal.items reported) }
+        ensures found { IfOk result (λ s. s.found ≡ found) }
     {
         Ok(Story {
             status: Status::of(state),
             journal,
             at: None,
             text: text?,
+            found,
         })
     }
 
@@ -125,8 +142,10 @@ impl Story {
         alloc: Global,
         journal: Vec<Entry>,
         state: State,
+        found: Found,
     ) -> Result<Self, AllocError>
-        ensures { IfOk result (λ s. end_of s ≡ lawful_end journal.items state) }
+        ensures told { IfOk result (λ s. end_of s ≡ lawful_end journal.items state) }
+        ensures found { IfOk result (λ s. s.found ≡ found) }
     {
         let count = journal.len();
         let word = state_word(state);
@@ -136,6 +155,7 @@ impl Story {
             journal,
             at: None,
             text: bytes_of(alloc, text.as_str())?,
+            found,
         })
     }
 
@@ -144,8 +164,10 @@ impl Story {
         alloc: Global,
         journal: Vec<Entry>,
         index: u32,
+        found: Found,
     ) -> Result<Self, AllocError>
-        ensures { IfOk result (λ s. end_of s ≡ unlawful_end journal.items index) }
+        ensures told { IfOk result (λ s. end_of s ≡ unlawful_end journal.items index) }
+        ensures found { IfOk result (λ s. s.found ≡ found) }
     {
         let text = format!(in alloc; "journal refused: event {index}\n")?;
         Ok(Story {
@@ -153,6 +175,7 @@ impl Story {
             journal,
             at: Some((index, 2)),
             text: bytes_of(alloc, text.as_str())?,
+            found,
         })
     }
 }

@@ -1,5 +1,6 @@
-// The answer of the top call.
+// The answers of the top calls.
 
+use gcd_commands::Found;
 use gcd_event::Entry;
 
 /// What the top call answers.
@@ -12,4 +13,13 @@ pub struct Ended {
     /// Where a script is refused, the line, from 1, and the code; line 0 is the script as a whole. Where a journal is refused,
     /// the line and 1, or the index of the event, from 0, and 2.
     pub at: Option<(u32, u32)>,
+}
+
+/// What a call answers, and what it found out on its way.
+#[derive(Drop)]
+pub struct Account {
+    /// What the call answers.
+    pub ended: Ended,
+    /// The plan and the machine that the call made. A run's machine stands for the journal.
+    pub found: Found,
 }

@@ -1,4 +1,4 @@
-// The top call.
+// The top calls.
 ghost use Rattle.std.specs.Prelude.{◌≡◌, ℕ, true, false, is_some, IfOk, OnErr};
 ghost use Rattle.gcd_outer.specs.Outside.{seen};
 ghost use Rattle.gcd_commands.specs.Calls.{inputs};
@@ -7,10 +7,11 @@ ghost use Rattle.gcd_run.specs.Statuses.{StatusSays};
 ghost use Rattle.gcd_commands.specs.declared.status.Status.TheVariants.{NoCommand};
 ghost use Rattle.gcd_words.specs.Asked.{AreTaken, request_of};
 ghost use Rattle.gcd_run.specs.Ends.{CallEnds, HasStatus, IsWritten, WordsBegin, WordsTell, outside, texts};
+ghost use Rattle.gcd_run.specs.Hands.{AskedHands, HandsOn};
 ghost use Rattle.gcd_commands.specs.Stories.{end_of};
 
-use crate::ended::Ended;
-use gcd_commands::{Status, Story, tell_check, tell_front, tell_large, tell_run};
+use crate::ended::{Account, Ended};
+use gcd_commands::{Found, Status, Story, tell_check, tell_front, tell_large, tell_run};
 use gcd_outer::{Clock, Poller, Shelf, Sink, write_whole};
 use gcd_words::{Request, read_words};
 use std::alloc::{AllocError, Global};
@@ -29,6 +30,7 @@ fn tell<R: Threads + Wait + Sync, S: Shelf, P: Poller + Send, C: Clock + Send>(
     requires unwatched { (feed : ℕ) → (P.state poller.old).watched feed ≡ false }
     ensures reported { IfOk result (λ s. WordsTell (inputs S.Shelf shelf.old shelf.new P.Poller poller.old poller.new C.Clock clock.old clock.new) (texts words.now) (end_of s)) }
     ensures taken { IfOk result (λ s. AreTaken (texts words.now) → is_some (request_of (texts words.now)) ≡ true) }
+    ensures found { IfOk result (λ s. AskedHands (seen S.tells S.state shelf.old shelf.new) (request_of (texts words.now)) (end_of s) s.found) }
     ensures wanting { OnErr result (WordsBegin (inputs S.Shelf shelf.old shelf.new P.Poller poller.old poller.new C.Clock clock.old clock.new) (texts words.now)) }
 {
     match read_words(alloc, words)? {
@@ -40,19 +42,24 @@ fn tell<R: Threads + Wait + Sync, S: Shelf, P: Poller + Send, C: Clock + Send>(
     }
 }
 
-// The text is written, whole where the sink does not fail.
-fn write_story<K: Sink>(out: &mut K, story: Story) -> Ended
-    ensures { IsWritten (seen K.tells K.state out.old out.new) (end_of story) result }
+// Writes the text, whole if the sink does not fail.
+fn write_story<K: Sink>(out: &mut K, story: Story) -> Account
+    ensures written { IsWritten (seen K.tells K.state out.old out.new) (end_of story) result.ended }
+    ensures found { result.found ≡ story.found }
 {
     let written = write_whole(out, story.text.as_slice());
     let status = match written {
         Ok(()) => story.status,
         Err(_) => Status::CutOff,
     };
-    Ended {
+    let ended = Ended {
         status: status.code(),
         journal: story.journal,
         at: story.at,
+    };
+    Account {
+        ended,
+        found: story.found,
     }
 }
 
@@ -97,12 +104,40 @@ pub fn gcd_main<R: Threads + Wait + Sync, S: Shelf, K: Sink, P: Poller + Send, C
     // What has to be told.
     ensures always { Always (outside S.Shelf shelf.old shelf.new P.Poller poller.old poller.new C.Clock clock.old clock.new K.Sink out.old out.new) (texts words.now) result }
 {
+    account_of(rt, alloc, words, shelf, out, poller, clock).ended
+}
+
+/// Does what [`gcd_main`] does, and hands on what it found out: the plan of the script that was read, and the machine that stands for the
+/// journal of a run. Whoever tells why a run ended need not parse, run or replay anything again.
+pub fn account_of<R: Threads + Wait + Sync, S: Shelf, K: Sink, P: Poller + Send, C: Clock + Send>(
+    rt: &R,
+    alloc: Global,
+    words: &[&str],
+    shelf: &mut S,
+    out: &mut K,
+    poller: &mut P,
+    clock: &mut C,
+) -> Account
+    requires unwatched { (feed : ℕ) → (P.state poller.old).watched feed ≡ false }
+    ensures ended { CallEnds (outside S.Shelf shelf.old shelf.new P.Poller poller.old poller.new C.Clock clock.old clock.new K.Sink out.old out.new) (texts words.now) result.ended }
+    ensures says { StatusSays (outside S.Shelf shelf.old shelf.new P.Poller poller.old poller.new C.Clock clock.old clock.new K.Sink out.old out.new) (texts words.now) result.ended }
+    ensures named { HasStatus result.ended NoCommand → AreTaken (texts words.now) → ⊥ }
+    ensures always { Always (outside S.Shelf shelf.old shelf.new P.Poller poller.old poller.new C.Clock clock.old clock.new K.Sink out.old out.new) (texts words.now) result.ended }
+    // What it hands on, by what the words ask for.
+    ensures found { HandsOn (outside S.Shelf shelf.old shelf.new P.Poller poller.old poller.new C.Clock clock.old clock.new K.Sink out.old out.new) (texts words.now) result }
+{
     match tell(rt, alloc, words, shelf, poller, clock) {
         Ok(story) => write_story(out, story),
-        Err(AllocError) => Ended {
-            status: Status::NoMemory.code(),
-            journal: Vec::new(alloc),
-            at: None,
-        },
+        Err(AllocError) => {
+            let ended = Ended {
+                status: Status::NoMemory.code(),
+                journal: Vec::new(alloc),
+                at: None,
+            };
+            Account {
+                ended,
+                found: Found::Nothing,
+            }
+        }
     }
 }

@@ -6,7 +6,8 @@
 //! | [`why_script`], [`cause_at`] | why the script is refused at that line with that cause, which the parser told; the cause, if the line alone is known |
 //! | [`why_journal`], [`journal_cause`] | why the text is no journal at that line with that cause, which the reader told; the cause, if the line alone is known |
 //! | [`why_event`] | which event is the first that is not permitted, the reason that the definitions give it (`why`), and what is in the way |
-//! | [`why_run`] | of a stuck run what each block waits for, down to the cause; of a drained one what never came; of a misuse the act and the rule; of a full one how far it came, and how to let it go on |
+//! | [`why_ended`] | of a stuck run what each block waits for, down to the cause; of a drained one what never came; of a misuse the act and the rule; of a full one how far it came, and how to let it go on |
+//! | [`why_run`] | the same of a run of which the events alone are known |
 //! | [`why_words`] | which word of a command line is refused |
 //! | [`Unread`], [`CUT_OFF`], [`NO_MEMORY`] | what could not be read; that standard output cannot be written; that memory ran out |
 //!
@@ -28,7 +29,7 @@ mod unread;
 pub use event::{EventSentence, why_event};
 pub use gcd_cause::{Barred, WordsCause, why_words};
 pub use journal::{journal_cause, why_journal};
-pub use run::why_run;
+pub use run::{RunEnd, why_ended, why_run};
 pub use script::{cause_at, why_script};
 pub use sentence::Sentence;
 pub use unread::{CUT_OFF, NO_MEMORY, Unread};

@@ -1,6 +1,5 @@
 // Why a run ended as it did.
-ghost use Rattle.std.specs.Prelude.{◌<◌, ◌^◌, [], length};
-ghost use Rattle.gcd_machine.specs.Stands.{StandsFor};
+ghost use Rattle.std.specs.Prelude.{◌<◌, ◌^◌, length};
 
 use crate::barred::find_barred;
 use crate::sentence::Sentence;
@@ -16,6 +15,18 @@ use std::alloc::{AllocError, Global};
 
 /// The most sentences that are said of a run.
 const MAX_SAID: usize = 200;
+
+/// A run that is over.
+#[derive(Clone, Copy)]
+pub struct RunEnd<'a> {
+    pub plan: &'a Plan,
+    /// The machine that stands for the events.
+    pub machine: &'a Machine,
+    /// All events, in order.
+    pub events: &'a [Entry],
+    /// The most events that the run may have.
+    pub most: u32,
+}
 
 // What is said so far of a run.
 #[derive(Drop)]
@@ -257,35 +268,91 @@ fn say_state(
     }
 }
 
-// The same, by a machine that has taken nothing; nothing is said of events that are not lawful.
-fn say_by(
-    plan: &Plan,
-    saying: &mut Saying,
-    events: &[Entry],
-    machine: &mut Machine,
-    scene: &mut Scene,
-) -> Result<(), AllocError>
-    requires begin { StandsFor machine.old plan.now [] }
-    requires few { length events.now < 2 ^ 32 }
-{
-    if find_barred(plan, machine, scene, events)?.is_some() {
-        return Ok(());
+// Whether a run that is over may have left something to note: a block that was never submitted, or data that was never delivered. It looks
+// at each block and object once, and at no event.
+fn may_have_notes(machine: &Machine) -> bool {
+    for b in 1..machine.blocks() {
+        if machine.node_of(Blk(b)).is_none() {
+            return true;
+        }
     }
-    let state = machine.state();
-    let sight = Sight {
-        plan,
-        machine,
-        scene,
-    };
-    say_state(saying, sight, state, events)
+    for s in 0..machine.objects() {
+        if machine.pending_of(Obj(s)) > 0 {
+            return true;
+        }
+    }
+    false
 }
 
-/// Says why a run of the plan ended as it did, by its events; the script's name and text give the lines. Of a stuck run it says of
-/// each parked block, and of each that is submitted and has not started, what it waits for, down to the cause, and of a cycle that
-/// it is one; of a stuck or drained run also which notify blocks never came, and what was never delivered; of a misuse the act and
-/// the rule that it breaks; of a run that goes on and has `most` events, the most that it may have, how far it came, and that a
-/// greater `--most` lets it go on. Nothing of events that are not lawful, and no more than 200 sentences. An `Err`
-/// comes only where memory runs out.
+impl RunEnd<'_> {
+    // Whether anything may be said of it.
+    fn has_sentences(self) -> bool {
+        match self.machine.state() {
+            State::Drained => may_have_notes(self.machine),
+            State::Stuck => true,
+            State::Misused => true,
+            State::Halted => false,
+            State::Live => self.events.len() >= self.most as usize,
+        }
+    }
+
+    // What is said of it, by what its events have made.
+    fn said<'a>(
+        self,
+        alloc: Global,
+        file: &'a str,
+        text: &[u8],
+        scene: &Scene,
+    ) -> Result<Vec<Sentence<'a>>, AllocError> {
+        let mut saying = Saying {
+            alloc,
+            most: self.most,
+            file,
+            places: Places::of(alloc, self.plan, text)?,
+            said: Vec::new(alloc),
+        };
+        let sight = Sight {
+            plan: self.plan,
+            machine: self.machine,
+            scene,
+        };
+        say_state(&mut saying, sight, self.machine.state(), self.events)?;
+        let Saying {
+            alloc: _,
+            most: _,
+            file: _,
+            places: _,
+            said,
+        } = saying;
+        Ok(said)
+    }
+}
+
+/// Says why a run ended as it did; the script's name and text give the lines. Of a stuck run it says what each parked block, and each
+/// block that is submitted and has not started, waits for, down to the cause, and of a cycle that it is one. Of a stuck or drained run it
+/// also says which notify blocks never came, and what was never delivered. Of a misuse it says the act and the rule that the act breaks. Of
+/// a run that has as many events as it may have, and goes on, it says how far the run came, and that a greater `--most` lets it go on. It
+/// says no more than 200 sentences.
+///
+/// If nothing is to be said, it looks once at each block and object, and not at the events. Returns `Err` only if memory runs out.
+pub fn why_ended<'a>(
+    alloc: Global,
+    end: RunEnd,
+    file: &'a str,
+    text: &[u8],
+) -> Result<Vec<Sentence<'a>>, AllocError> {
+    if !end.has_sentences() {
+        return Ok(Vec::new(alloc));
+    }
+    let mut scene = Scene::new(alloc, end.plan)?;
+    for e in end.events {
+        scene.take(end.plan, e.event())?;
+    }
+    end.said(alloc, file, text, &scene)
+}
+
+/// Says what [`why_ended`] says of a run of which the events alone are known: a machine takes them first. Of events that are not lawful it
+/// says nothing. Returns `Err` only if memory runs out.
 pub fn why_run<'a>(
     alloc: Global,
     plan: &Plan,
@@ -296,22 +363,16 @@ pub fn why_run<'a>(
 ) -> Result<Vec<Sentence<'a>>, AllocError>
     requires few { length events.now < 2 ^ 32 }
 {
-    let mut saying = Saying {
-        alloc,
-        most,
-        file,
-        places: Places::of(alloc, plan, text)?,
-        said: Vec::new(alloc),
-    };
     let mut scene = Scene::new(alloc, plan)?;
     let mut machine = Machine::new(alloc, plan)?;
-    say_by(plan, &mut saying, events, &mut machine, &mut scene)?;
-    let Saying {
-        alloc: _,
-        most: _,
-        file: _,
-        places: _,
-        said,
-    } = saying;
-    Ok(said)
+    if find_barred(plan, &mut machine, &mut scene, events)?.is_some() {
+        return Ok(Vec::new(alloc));
+    }
+    let end = RunEnd {
+        plan,
+        machine: &machine,
+        events,
+        most,
+    };
+    end.said(alloc, file, text, &scene)
 }

@@ -2,6 +2,7 @@ use Rattle.std.proofs.Common.{refl, arith}
 use Rattle.gcd_plan.specs.Limits.{max_file_bytes}
 use Rattle.gcd_outer.specs.Outside.{Seen, ShelfState, seen}
 use Rattle.gcd_commands.specs.Checks.CheckEnds.{judged}
+use Rattle.gcd_commands.specs.Hands.HandsPlan.{read as hands_plan}
 use Rattle.gcd_commands.specs.Checks.StopsCheck.{at_script, at_journal}
 use Rattle.gcd_commands.specs.Checks.StopsJournal.{wanting}
 use Rattle.gcd_commands.proofs.Loading.{SameShelf, handed_on, journal_since, loaded_same, made_later, plan_since}
@@ -49,11 +50,22 @@ returns-in-Ok-clause-reported g c =
             loaded = loaded_same later whole same_later _ max_file_bytes read.text read.loaded;
             journal_is = read.journal_is;
           })
-          c.in-Ok.ensures refl;
+          c.in-Ok.ensures.judged refl;
     }
 
-pub returns-clause-stopped : goal.returns-clause-stopped
-returns-clause-stopped g c =
+pub returns-in-Ok-clause-found : goal.returns-in-Ok-clause-found
+returns-in-Ok-clause-found g c =
+    let between : g.row.S.Denot → g.row.S.Denot → Seen ShelfState = seen g.S.Shelf.tells g.S.Shelf.state in
+    let before = c.args.shelf.now in
+    let first = between before c.load_plan.new.shelf in
+    let whole = between before c.load_journal.new.shelf in
+    let same_first : SameShelf first whole = record { tells = refl; content = refl } in
+    hands_plan c.in_ok-plan.plan
+    (plan_since first whole same_first (omega arith) (omega (arith, c.load_journal.ensures.faults)) _ c.in_ok-plan.plan c.in_ok-plan.ensures.plan)
+    c.in-Ok.ensures.found
+
+pub returns-in-Err-clause-stopped : goal.returns-in-Err-clause-stopped
+returns-in-Err-clause-stopped g c =
     let between : g.row.S.Denot → g.row.S.Denot → Seen ShelfState = seen g.S.Shelf.tells g.S.Shelf.state in
     let before = c.args.shelf.now in
     let first = between before c.load_plan.new.shelf in

@@ -1,5 +1,6 @@
 use Rattle.std.proofs.Common.{◌+◌, map, length, refl}
 use Rattle.gcd_commands.specs.Fronts.FrontEnds.{ran}
+use Rattle.gcd_commands.specs.Hands.HandsPlan.{read as hands_plan}
 use Rattle.gcd_commands.specs.Fronts.StopsFront.{wanting}
 use Rattle.gcd_commands.proofs.Loading.{handed_on}
 use Rattle.gcd_commands.proofs.front.front_script.Goals as goal
@@ -17,6 +18,9 @@ returns-in-Ok-clause-told g c =
       is = ran c.in_ok-plan.plan (map (λ f. f.items) c.in_ok-plan.files.items) has.intake c.in_ok-plan.ensures.ready has.intake_is refl
           (c.in-Ok.ensures.told has.intake has.intake_is);
     }
+
+pub returns-in-Ok-clause-found : goal.returns-in-Ok-clause-found
+returns-in-Ok-clause-found g c = hands_plan c.in_ok-plan.plan c.in_ok-plan.ensures.ready.plan_is c.in-Ok.ensures.found
 
 pub returns-clause-stopped : goal.returns-clause-stopped
 returns-clause-stopped g c =

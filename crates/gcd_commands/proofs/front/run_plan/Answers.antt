@@ -17,6 +17,6 @@ returns-clause-told g c = λ intake is.
     let ran = c.in_ok-run.ensures.ran in
     record {
       value = value_or_0 run.values.items;
-      tells = record { h = run.journal.items; state = run.state; ran = ran.ran; end_is = c.in_ok-story.ensures };
+      tells = record { h = run.journal.items; state = run.state; ran = ran.ran; end_is = c.in_ok-story.ensures.told };
       hears = ran.hears intake is;
     }

@@ -12,9 +12,9 @@ text_of-text-requires-clause-few c =
     subst (λ (h : List Event). (s : ℕ) → length (blocks_of_sender h s) ≤ max_blocks) (sym c.deref.ensures.value) c.requires.few
 
 pub text_of-text-requires-clause-spoken : goal.text_of-text-requires-clause-spoken
-text_of-text-requires-clause-spoken c = subst (λ (h : List Event). AreSpoken c.args.plan.now h) (sym c.deref.ensures.value) c.requires.spoken
+text_of-text-requires-clause-spoken c = subst (λ (h : List Event). AreSpoken c.args.plan h) (sym c.deref.ensures.value) c.requires.spoken
 
-pub returns : goal.returns
-returns c =
+pub returns-clause-told : goal.returns-clause-told
+returns-clause-told c =
     let told = rw (c.deref.ensures.value, c.deref-2.ensures.value) at c.text_of-text.ensures in
-    c.ran.ensures (front_text c.args.plan.now c.args.senders (value_or_0 c.args.run.values.items) c.args.run.state c.args.run.journal.items) told
+    c.ran.ensures.told (front_text c.args.plan c.args.senders (value_or_0 c.args.run.values.items) c.args.run.state c.args.run.journal.items) told

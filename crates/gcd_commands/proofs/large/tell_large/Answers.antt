@@ -2,7 +2,9 @@ use Rattle.std.proofs.Common.{◌∙◌, length, map, ap, refl, sym, arith}
 use Rattle.std.proofs.lemmas.List.{length-map}
 use Rattle.gcd_commands.specs.End.{large_file}
 use Rattle.gcd_journal.proofs.LawfulSpoken.{lawful_spoken}
+use Rattle.gcd_commands.proofs.Hands.{run_of}
 use Rattle.gcd_commands.proofs.Totals.{total_is}
+use Rattle.gcd_commands.specs.Hands.HandsRun.{ran as hands_run}
 use Rattle.gcd_commands.proofs.large.tell_large.Goals as goal
 
 pub run_by-requires-clause-files : goal.run_by-requires-clause-files
@@ -33,6 +35,13 @@ returns-clause-reported g c =
         h = run.journal.items;
         state = run.state;
         ran = c.in_ok-run.ensures.ran;
-        end_is = rw (total) at c.in_ok-story.ensures;
+        end_is = rw (total) at c.in_ok-story.ensures.told;
       };
     }
+
+pub returns-clause-found : goal.returns-clause-found
+returns-clause-found g c =
+    let plan = c.in_ok-plan.plan in
+    let run = c.in_ok-run.run' in
+    hands_run plan (rw (c.from.ensures) at c.in_ok-plan.ensures.script)
+    (run_of plan run.machine run.journal.items _ c.in_ok-story.story c.in_ok-story.ensures.told refl c.in_ok-run.ensures.stands c.in_ok-story.ensures.found)

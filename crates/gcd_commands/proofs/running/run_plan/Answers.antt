@@ -1,4 +1,5 @@
-use Rattle.std.proofs.Common.{map, arith}
+use Rattle.std.proofs.Common.{map, arith, refl}
+use Rattle.gcd_commands.proofs.Hands.{run_of}
 use Rattle.gcd_commands.proofs.running.run_plan.Goals as goal
 
 pub story_of-requires-clause-lawful : goal.story_of-requires-clause-lawful
@@ -14,5 +15,11 @@ returns-clause-reported g c =
       h = c.in_ok-run.run'.journal.items;
       state = c.in_ok-run.run'.state;
       ran = r;
-      end_is = c.in_ok-story.ensures (map (λ f. f.items) c.args.over.files.now) r.over.state_is c.in_ok-run.ensures.values.values;
+      end_is = c.in_ok-story.ensures.told (map (λ f. f.items) c.args.files.now) r.over.state_is c.in_ok-run.ensures.values.values;
     }
+
+pub returns-clause-found : goal.returns-clause-found
+returns-clause-found g c =
+    let run = c.in_ok-run.run' in
+    let told = c.in_ok-story.ensures.told (map (λ f. f.items) c.args.files.now) c.in_ok-run.ensures.ran.over.state_is c.in_ok-run.ensures.values.values in
+    run_of c.args.plan run.machine run.journal.items _ c.in_ok-story.story told refl c.in_ok-run.ensures.stands c.in_ok-story.ensures.found

@@ -1,6 +1,7 @@
 use Rattle.std.proofs.Common.{◌+◌, ◌∙◌, map, length, ap, sym, refl}
 use Rattle.std.proofs.lemmas.List.{length-map}
 use Rattle.gcd_commands.specs.Calls.{only_loads, failed_listen, with_listen}
+use Rattle.gcd_commands.specs.Hands.HandsRun.{ran as hands_run}
 use Rattle.gcd_commands.specs.Runs.RunEnds.{ran}
 use Rattle.gcd_commands.specs.Runs.StopsRun.{unready, at_listen, wanting}
 use Rattle.gcd_commands.proofs.Loading.{handed_on, loaded_count}
@@ -55,6 +56,9 @@ returns-in-Ok-clause-reported g c =
       is = ran c.in_ok-plan.plan (map (λ f. f.items) c.in_ok-plan.files.items) c.in_ok-plan.ensures.ready refl
           (tells_since (state c.listen_at.new.poller) (state c.args.poller.now) (state c.run_plan.new.poller) g.P.Poller.tells same _ _ _ _ _ _ _ reported);
     }
+
+pub returns-in-Ok-clause-found : goal.returns-in-Ok-clause-found
+returns-in-Ok-clause-found g c = hands_run c.in_ok-plan.plan c.in_ok-plan.ensures.ready.plan_is c.in-Ok.ensures.found
 
 pub returns-clause-stopped : goal.returns-clause-stopped
 returns-clause-stopped g c =

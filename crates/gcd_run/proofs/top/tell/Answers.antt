@@ -3,7 +3,7 @@ use Rattle.std.proofs.lemmas.Result.{IfOk-weaker}
 use Rattle.gcd_commands.specs.Calls.{only_loads}
 use Rattle.gcd_commands.proofs.Hearing.{quiet}
 use Rattle.gcd_commands.proofs.Loading.{on_any_err, on_err_map}
-use Rattle.gcd_run.proofs.Words.{calls_of_words, ok_anyhow, taken_asks, told_of_words}
+use Rattle.gcd_run.proofs.Words.{calls_of_words, hands_of_words, ok_anyhow, taken_asks, told_of_words}
 use Rattle.gcd_words.specs.Requests.{asked_of}
 use Rattle.gcd_run.proofs.top.tell.Goals as goal
 
@@ -24,7 +24,7 @@ returns-in-None-clause-reported g c =
       made = record { loads = λ _. refl; listens = quiet g.P.Poller.tells (g.P.Poller.state c.args.poller.now) };
       is = told_of_words _ _ _ _ _ asked (refl, is);
     })
-    c.usage.ensures
+    c.usage.ensures.told
 
 pub returns-in-None-clause-wanting : goal.returns-in-None-clause-wanting
 returns-in-None-clause-wanting g c = on_any_err c.usage.result
@@ -137,3 +137,28 @@ returns-in-Some-Front-clause-wanting g c =
 
 pub returns-in-Some-Front-clause-taken : goal.returns-in-Some-Front-clause-taken
 returns-in-Some-Front-clause-taken g c = ok_anyhow _ c.tell_front.result (taken_asks asked_of _ _ c.in_ok-read_words.ensures.exact c.in_ok-read_words.ensures.taken)
+
+pub returns-in-None-clause-found : goal.returns-in-None-clause-found
+returns-in-None-clause-found g c =
+    let asked = rw (c.in-None.is) at c.in_ok-read_words.ensures.exact in
+    IfOk-weaker c.usage.result _ _ (λ s is. hands_of_words _ _ _ _ _ asked is) c.usage.ensures.found
+
+pub returns-in-Some-Run-clause-found : goal.returns-in-Some-Run-clause-found
+returns-in-Some-Run-clause-found g c =
+    let asked = rw (c.in-Some-Run.is, c.in-Some-Run.field-0-is) at c.in_ok-read_words.ensures.exact in
+    IfOk-weaker c.tell_run.result _ _ (λ s is. hands_of_words _ _ _ _ _ asked is) c.tell_run.ensures.found
+
+pub returns-in-Some-Check-clause-found : goal.returns-in-Some-Check-clause-found
+returns-in-Some-Check-clause-found g c =
+    let asked = rw (c.in-Some-Check.is, c.in-Some-Check.field-0-is) at c.in_ok-read_words.ensures.exact in
+    IfOk-weaker c.tell_check.result _ _ (λ s is. hands_of_words _ _ _ _ _ asked is) c.tell_check.ensures.found
+
+pub returns-in-Some-Big-clause-found : goal.returns-in-Some-Big-clause-found
+returns-in-Some-Big-clause-found g c =
+    let asked = rw (c.in-Some-Big.is, c.in-Some-Big.field-0-is) at c.in_ok-read_words.ensures.exact in
+    IfOk-weaker c.tell_large.result _ _ (λ s is. hands_of_words _ _ _ _ _ asked is) c.tell_large.ensures.found
+
+pub returns-in-Some-Front-clause-found : goal.returns-in-Some-Front-clause-found
+returns-in-Some-Front-clause-found g c =
+    let asked = rw (c.in-Some-Front.is, c.in-Some-Front.field-0-is) at c.in_ok-read_words.ensures.exact in
+    IfOk-weaker c.tell_front.result _ _ (λ s is. hands_of_words _ _ _ _ _ asked is) c.tell_front.ensures.found
