@@ -6,9 +6,10 @@
 //! | [`why_script`] | why the script is refused at that line with that code, which the parser told |
 //! | [`why_journal`] | why the text is no journal at that line, which the reader told |
 //! | [`why_event`] | which event is the first that is not permitted, the reason that the definitions give it (`why`), and what is in the way |
-//! | [`why_run`] | of a stuck run what each block waits for, down to the cause; of a drained one what never came; of a misuse the act and the rule; of a full one how far it came, and how to let it go on |
+//! | [`why_run`] | of a stuck run what each block waits for, down to the cause; of a stuck or drained one what was left undone; of a misuse the act and the rule; of a full one how far it came, and how to let it go on |
 //! | [`why_words`] | which word of a command line is refused |
-//! | [`Unread`], [`CUT_OFF`], [`NO_MEMORY`] | what could not be read; that standard output cannot be written; that memory ran out |
+//! | [`Unread`], [`why_unread`] | what could not be read; the same on the line of the script that names it |
+//! | [`CUT_OFF`], [`NO_MEMORY`], [`NO_INTAKE`] | that standard output cannot be written; that memory ran out; that a script has no intake |
 //!
 //! A [`Sentence`] is one line, with the file, as the caller named it, and the line.
 //!
@@ -18,8 +19,11 @@
 #![tactic(auto)]
 
 mod barred;
+mod declared;
 mod event;
 mod journal;
+mod named;
+mod noting;
 mod run;
 mod script;
 mod sentence;
@@ -28,6 +32,7 @@ mod unread;
 pub use event::{EventSentence, why_event};
 pub use gcd_cause::{Barred, WordsCause, why_words};
 pub use journal::why_journal;
+pub use named::{NO_INTAKE, why_unread};
 pub use run::why_run;
 pub use script::why_script;
 pub use sentence::Sentence;

@@ -3,19 +3,14 @@ ghost use Rattle.std.specs.Prelude.{◌<◌, ◌^◌, [], length};
 ghost use Rattle.gcd_machine.specs.Stands.{StandsFor};
 
 use crate::barred::find_barred;
+use crate::noting::{Left, MAX_SAID, may_have_notes, notes};
 use crate::sentence::Sentence;
-use gcd_cause::{
-    ActWords, BlockNow, Place, Places, Scene, Sight, act_at, chain, code_name, hold_words, kind_of,
-    misuse_words,
-};
+use gcd_cause::{ActWords, Blame, Place, Places, Scene, Sight, act_at, code_name, misuse_words};
 use gcd_event::{Entry, Event};
 use gcd_history::State;
 use gcd_machine::Machine;
-use gcd_plan::{Blk, MAX_EVENTS, Obj, Plan, Run, Why};
+use gcd_plan::{Blk, MAX_EVENTS, Plan, Run};
 use std::alloc::{AllocError, Global};
-
-/// The most sentences that are said of a run.
-const MAX_SAID: usize = 200;
 
 // What is said so far of a run.
 #[derive(Drop)]
@@ -24,6 +19,7 @@ struct Saying<'a> {
     most: u32,
     file: &'a str,
     places: Places,
+    blame: Blame,
     said: Vec<Sentence<'a>>,
 }
 
@@ -60,14 +56,21 @@ impl<'a> Saying<'a> {
         self.places.line_of(now.by)
     }
 
+    // What a block waits for, unless it is in a cycle that was told.
+    fn waiting(&mut self, sight: Sight, b: Blk) -> Result<(), AllocError> {
+        let Some(text) = self.blame.chain(sight, b)? else {
+            return Ok(());
+        };
+        let line = self.line_of_block(sight, b);
+        self.add(line, text)
+    }
+
     // What a block waits for, where it is parked.
     fn parked(&mut self, sight: Sight, b: Blk) -> Result<(), AllocError> {
         if sight.awaited(b).is_none() {
             return Ok(());
         }
-        let text = chain(self.alloc, sight, b)?;
-        let line = self.line_of_block(sight, b);
-        self.add(line, text)
+        self.waiting(sight, b)
     }
 
     // What a block waits for, where it is submitted and has not started.
@@ -75,9 +78,7 @@ impl<'a> Saying<'a> {
         if sight.is_started(b) || !sight.is_submitted(b) {
             return Ok(());
         }
-        let text = chain(self.alloc, sight, b)?;
-        let line = self.line_of_block(sight, b);
-        self.add(line, text)
+        self.waiting(sight, b)
     }
 
     // What each parked block waits for, and then each that has not started.
@@ -97,41 +98,20 @@ impl<'a> Saying<'a> {
         Ok(())
     }
 
-    // That a notify block never came.
-    fn note_block(&mut self, sight: Sight, b: Blk) -> Result<(), AllocError> {
-        if sight.is_submitted(b) {
+    // The notes on what is left undone.
+    fn notes(&mut self, sight: Sight, text: &[u8], is_stuck: bool) -> Result<(), AllocError> {
+        if !may_have_notes(sight.plan, sight.machine) {
             return Ok(());
         }
-        let now = sight.scene.block(b);
-        let Some(cause) = unnotified(self.alloc, sight, now)? else {
-            return Ok(());
+        let left = Left {
+            file: self.file,
+            text,
+            places: &self.places,
+            sight,
+            is_stuck,
         };
-        let (name, cause) = (sight.name_of_block(b), cause.as_str());
-        let text = format!(in self.alloc; "note: {name} was never submitted: {cause}")?;
-        let line = self.places.line_of(now.by);
-        self.add(line, text)
-    }
-
-    // That data was never delivered.
-    fn note_source(&mut self, sight: Sight, s: Obj) -> Result<(), AllocError> {
-        let pending = sight.pending(s);
-        if pending == 0 || !kind_of(sight.plan, s).is_source() {
-            return Ok(());
-        }
-        let name = sight.name_of_object(s);
-        let why = undelivered(self.alloc, sight, s)?;
-        let text = format!(in self.alloc; "note: {pending} of {name} was never delivered: {why}")?;
-        let line = self.places.line_of_object(s);
-        self.add(line, text)
-    }
-
-    // The notes on what never came.
-    fn notes(&mut self, sight: Sight) -> Result<(), AllocError> {
-        for b in 0..sight.plan.blocks() {
-            self.note_block(sight, Blk(b))?;
-        }
-        for s in 0..sight.plan.objects() {
-            self.note_source(sight, Obj(s))?;
+        for note in notes(self.alloc, left)? {
+            self.add(note.line, note.text)?;
         }
         Ok(())
     }
@@ -177,22 +157,6 @@ impl<'a> Saying<'a> {
     }
 }
 
-// What a notify block still waits for; None for any other block.
-fn unnotified(alloc: Global, sight: Sight, now: BlockNow) -> Result<Option<String>, AllocError> {
-    if let Some(g) = now.notify {
-        let (group, state) = (sight.name_of_object(g), sight.scene.object(g));
-        let count = state.enters.saturating_add(state.members);
-        let text = format!(in alloc; "group {group} still counts {count}")?;
-        return Ok(Some(text));
-    }
-    if let Some(first) = now.after {
-        let block = sight.name_of_block(first);
-        let text = format!(in alloc; "{block} has not ended")?;
-        return Ok(Some(text));
-    }
-    Ok(None)
-}
-
 // How to let a run have more events than these, where one may.
 fn more_words(most: u32) -> &'static str {
     if most < MAX_EVENTS {
@@ -202,34 +166,19 @@ fn more_words(most: u32) -> &'static str {
     }
 }
 
-// Why nothing is delivered of a source at which something is pending.
-fn undelivered(alloc: Global, sight: Sight, s: Obj) -> Result<String, AllocError> {
-    let name = sight.name_of_object(s);
-    if sight.scene.object(s).is_cancelled {
-        return format!(in alloc; "{name} is cancelled");
-    }
-    match (sight.bars_deliver(s), sight.held(s), sight.excluding(s)) {
-        (Some(Why::NotFree), Some(o), _) => hold_words(alloc, sight, o),
-        (Some(Why::Excluded), _, Some((o, run))) => {
-            let (object, other) = (sight.name_of_object(o), sight.name_of(run));
-            format!(in alloc; "{other} is open beneath {object}")
-        }
-        _ => String::from_str(alloc, "the run ended before"),
-    }
-}
-
 // What is said of a run that has come to this state.
 fn say_state(
     saying: &mut Saying,
     sight: Sight,
     state: State,
+    text: &[u8],
     events: &[Entry],
 ) -> Result<(), AllocError> {
     match state {
-        State::Drained => saying.notes(sight),
+        State::Drained => saying.notes(sight, text, false),
         State::Stuck => {
             saying.stuck(sight)?;
-            saying.notes(sight)
+            saying.notes(sight, text, true)
         }
         State::Misused => {
             let Some(last) = events.last() else {
@@ -261,6 +210,7 @@ fn say_state(
 fn say_by(
     plan: &Plan,
     saying: &mut Saying,
+    text: &[u8],
     events: &[Entry],
     machine: &mut Machine,
     scene: &mut Scene,
@@ -277,15 +227,15 @@ fn say_by(
         machine,
         scene,
     };
-    say_state(saying, sight, state, events)
+    say_state(saying, sight, state, text, events)
 }
 
 /// Says why a run of the plan ended as it did, by its events; the script's name and text give the lines. Of a stuck run it says of
-/// each parked block, and of each that is submitted and has not started, what it waits for, down to the cause, and of a cycle that
-/// it is one; of a stuck or drained run also which notify blocks never came, and what was never delivered; of a misuse the act and
-/// the rule that it breaks; of a run that goes on and has `most` events, the most that it may have, how far it came, and that a
-/// greater `--most` lets it go on. Nothing of events that are not lawful, and no more than 200 sentences. An `Err`
-/// comes only where memory runs out.
+/// each parked block, and of each that is submitted and has not started, what it waits for, down to the cause, and tells each cycle
+/// once. Of a stuck or drained run it also notes what was left undone ([`notes`]). Of a misuse it says the act and the rule that it
+/// breaks; of a run that goes on and has `most` events, the most that it may have, how far it came, and that a greater `--most` lets
+/// it go on. It says nothing of events that are not lawful, and no more than 200 sentences. An `Err` comes only where memory runs
+/// out.
 pub fn why_run<'a>(
     alloc: Global,
     plan: &Plan,
@@ -301,16 +251,18 @@ pub fn why_run<'a>(
         most,
         file,
         places: Places::of(alloc, plan, text)?,
+        blame: Blame::new(alloc),
         said: Vec::new(alloc),
     };
     let mut scene = Scene::new(alloc, plan)?;
     let mut machine = Machine::new(alloc, plan)?;
-    say_by(plan, &mut saying, events, &mut machine, &mut scene)?;
+    say_by(plan, &mut saying, text, events, &mut machine, &mut scene)?;
     let Saying {
         alloc: _,
         most: _,
         file: _,
         places: _,
+        blame: _,
         said,
     } = saying;
     Ok(said)
