@@ -6,7 +6,10 @@ use gcd_event::Entry;
 use gcd_plan::{MAX_EVENTS, MAX_SCRIPT_BYTES, Plan};
 use gcd_run::{Ended, Status};
 use gcd_script::parse;
-use gcd_why::{CUT_OFF, NO_MEMORY, why_event, why_journal, why_run, why_script, why_words};
+use gcd_why::{
+    CUT_OFF, NO_INTAKE, NO_MEMORY, Sentence, Unread, why_event, why_journal, why_run, why_script,
+    why_unread, why_words,
+};
 use gcd_words::{CheckRequest, Request, read_words};
 use std::alloc::Global;
 use std::fmt::Display;
@@ -136,9 +139,34 @@ fn say_request<R: Eprint + Files>(
         Request::Big(_) => return,
         Request::Front(request) => (request.script, MAX_EVENTS),
     };
+    if ended.status == Status::NoIntake.code() {
+        if let Ok(sentence) = Sentence::of(alloc, name, 0, NO_INTAKE) {
+            say(rt, &sentence);
+        }
+        return;
+    }
     if let Some(script) = shelf.kept(0) {
         say_run(rt, alloc, most, name, script, &ended.journal);
     }
+}
+
+// What could not be read, on the line of a run's script that names it; None if none does, or out of memory.
+fn unread_by<'a, R: Eprint + Files>(
+    alloc: Global,
+    words: &'a [&'a str],
+    shelf: &ScriptShelf<R>,
+    unread: Unread,
+) -> Option<Sentence<'a>> {
+    let script = match read_words(alloc, words).ok().flatten()? {
+        Request::Run(request) => request.script,
+        Request::Front(request) => request.script,
+        Request::Check(_) | Request::Big(_) => return None,
+    };
+    let text = shelf.kept(0)?;
+    let plan = plan_of(alloc, text)?;
+    why_unread(alloc, &plan, script, text, unread)
+        .ok()
+        .flatten()
 }
 
 /// Says why the call ended as it did. Where memory runs out no more is said.
@@ -158,7 +186,10 @@ pub fn say_ended<R: Eprint + Files>(
         say(rt, &why_words(words));
     } else if ended.status == Status::Unread.code() {
         if let Some(missed) = missed {
-            say(rt, &missed.unread());
+            match unread_by(alloc, words, shelf, missed.unread()) {
+                Some(sentence) => say(rt, &sentence),
+                None => say(rt, &missed.unread()),
+            }
         }
     } else if let Ok(Some(request)) = read_words(alloc, words) {
         say_request(rt, alloc, request, ended, shelf);
