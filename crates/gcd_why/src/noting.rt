@@ -54,19 +54,49 @@ fn has_barriers(plan: &Plan, o: Obj) -> bool {
     o.0 > 0 && kind_of(plan, o).is_concurrent()
 }
 
-/// Whether a run that is over may have left something to note. It looks at each object and block of the plan once, and at no event.
-pub fn may_have_notes(plan: &Plan, machine: &Machine) -> bool {
+// Whether the object is a queue with barriers that a queue or a source has as its first target.
+fn is_fenced_target(plan: &Plan, q: Obj) -> bool {
+    if !has_barriers(plan, q) {
+        return false;
+    }
     for o in 0..plan.objects() {
-        if is_left(plan, machine, Obj(o)) || has_barriers(plan, plan.first_target(Obj(o))) {
+        if plan.first_target(Obj(o)) == q {
             return true;
         }
+    }
+    false
+}
+
+// Whether an act submits a barrier to a queue above another.
+fn has_barrier_above(plan: &Plan) -> bool {
+    for b in 0..plan.blocks() {
+        for act in plan.acts(Run::Block(Blk(b))) {
+            if let Act::Barrier(q, _) | Act::BarrierSync(q, _) = *act {
+                if is_fenced_target(plan, q) {
+                    return true;
+                }
+            }
+        }
+    }
+    false
+}
+
+/// Whether a run that is over may have left something to note. It looks at each object and block of the plan once, at the acts only if a
+/// queue is beneath one that may have barriers, and at no event.
+pub fn may_have_notes(plan: &Plan, machine: &Machine) -> bool {
+    let mut has_beneath = false;
+    for o in 0..plan.objects() {
+        if is_left(plan, machine, Obj(o)) {
+            return true;
+        }
+        has_beneath = has_beneath | has_barriers(plan, plan.first_target(Obj(o)));
     }
     for b in 0..plan.blocks() {
         if is_left_out(plan, machine, Blk(b)) {
             return true;
         }
     }
-    plan.limit_room() > 0
+    plan.limit_room() > 0 || (has_beneath && has_barrier_above(plan))
 }
 
 // The acts that submit blocks and strips: of each its place, if there is one.
