@@ -45,10 +45,16 @@ impl<'a, R: Files + Eprint> Folders<'a, R> {
     /// Notes on standard error, once, that the file beside the script was taken, if the path leads to another one from the folder in
     /// which the program runs.
     pub fn note(&mut self, beside: &str, path: &str) {
-        let (Some(taken), Some(other)) = (self.place(beside), self.place(path)) else {
+        if self.is_noted {
+            return;
+        }
+        let Some(other) = self.place(path) else {
             return;
         };
-        if !self.is_noted && taken.as_str() != other.as_str() {
+        let Some(taken) = self.place(beside) else {
+            return;
+        };
+        if taken.as_str() != other.as_str() {
             self.is_noted = true;
             let script = self.script;
             let _ = eprintln!(self.rt;
