@@ -15,20 +15,24 @@
 
 ghost use Rattle.std.specs.Prelude.{◌≡◌, ℕ, false, map, string_bytes, IfOk, IfSome};
 
+mod folders;
 mod missed;
 mod saying;
 mod script_poller;
 mod script_shelf;
+mod waiting_clock;
 
 use crate::saying::{Call, say_ended, say_status};
 use crate::script_poller::ScriptPoller;
 use crate::script_shelf::ScriptShelf;
+use crate::waiting_clock::WaitingClock;
 use gcd_outer::Poller;
 use gcd_run::{Status, account_of};
 use gcd_system::{NetPoller, StdoutSink, SystemClock};
 use gcd_words::{Request, read_words};
 use std::alloc::{AllocError, Global};
 use std::fs::File;
+use std::io::IsTerminal;
 use std::process::ExitCode;
 use std::rt::{Env, Files, Net};
 use std::{env, io};
@@ -53,18 +57,19 @@ fn texts<'a>(alloc: Global, words: &'a [String]) -> Result<Vec<&'a str>, AllocEr
     Ok(texts)
 }
 
-// A poller of the feeds that the script names. None where memory ran out.
+// A poller of the feeds that the script names, which says that it waits if a person watches. None where memory ran out.
 fn poller_of<'a, R: Files<File = File> + Net + Eprint>(
     rt: &'a R,
     alloc: Global,
     script: &'a str,
+    is_watched: bool,
 ) -> Option<ScriptPoller<'a, R, NetPoller<'a, R>>>
     ensures { IfSome result (λ p. (feed : ℕ) → (⟦<ScriptPoller<'a, R, NetPoller<'a, R>> as Poller>⟧.state p).watched feed ≡ false) }
 {
     let Ok(feeds) = NetPoller::new(rt, alloc) else {
         return None;
     };
-    Some(ScriptPoller::new(rt, alloc, feeds, script))
+    Some(ScriptPoller::new(rt, alloc, feeds, script, is_watched))
 }
 
 // The script's name, and how many contents are kept for the sentences at the end: the script, and the journal that is judged.
@@ -107,10 +112,11 @@ fn main(rt: HostRuntime) -> ExitCode {
     let (script, keeps) = kept_of(request);
     let mut shelf = ScriptShelf::new(&rt, rt.alloc(), script, keeps);
     let mut out = StdoutSink::new(&rt);
-    let Some(mut poller) = poller_of(&rt, rt.alloc(), script) else {
+    let is_watched = rt.stderr().is_terminal();
+    let Some(mut poller) = poller_of(&rt, rt.alloc(), script, is_watched) else {
         return without_memory(&rt);
     };
-    let mut clock = SystemClock::new(&rt);
+    let mut clock = WaitingClock::new(&rt, SystemClock::new(&rt), is_watched);
     let account = account_of(
         &rt,
         rt.alloc(),

@@ -6,8 +6,8 @@ use gcd_plan::{MAX_EVENTS, MAX_SCRIPT_BYTES, Plan};
 use gcd_run::{Account, Found, Status};
 use gcd_script::parse;
 use gcd_why::{
-    CUT_OFF, NO_MEMORY, RunEnd, cause_at, journal_cause, why_ended, why_event, why_journal, why_run,
-    why_script, why_words,
+    CUT_OFF, NO_INTAKE, NO_MEMORY, RunEnd, Sentence, Unread, cause_at, journal_cause, why_ended,
+    why_event, why_journal, why_run, why_script, why_unread, why_words,
 };
 use gcd_words::{CheckRequest, Request};
 use std::alloc::Global;
@@ -168,6 +168,12 @@ fn say_request<R: Eprint + Files>(
         Request::Big(_) => return,
         Request::Front(request) => (request.script, MAX_EVENTS),
     };
+    if account.ended.status == Status::NoIntake.code() {
+        if let Ok(sentence) = Sentence::of(alloc, name, 0, NO_INTAKE) {
+            say(rt, &sentence);
+        }
+        return;
+    }
     if let Some(script) = shelf.kept(0) {
         say_run(rt, alloc, most, name, script, account);
     }
@@ -182,6 +188,25 @@ pub struct Call<'a> {
     pub request: Option<Request<'a>>,
     /// What the call answered, and what it found out.
     pub account: &'a Account,
+}
+
+// What could not be read, on the line of a run's script that names it; None if none does, or out of memory.
+fn unread_by<'a, R: Eprint + Files>(
+    alloc: Global,
+    request: Option<Request<'a>>,
+    shelf: &ScriptShelf<R>,
+    unread: Unread,
+) -> Option<Sentence<'a>> {
+    let script = match request? {
+        Request::Run(request) => request.script,
+        Request::Front(request) => request.script,
+        Request::Check(_) | Request::Big(_) => return None,
+    };
+    let text = shelf.kept(0)?;
+    let plan = plan_of(alloc, text)?;
+    why_unread(alloc, &plan, script, text, unread)
+        .ok()
+        .flatten()
 }
 
 /// Says why the call ended as it did. If memory runs out, it says no more.
@@ -201,7 +226,10 @@ pub fn say_ended<R: Eprint + Files>(
         say(rt, &why_words(call.words));
     } else if status == Status::Unread.code() {
         if let Some(missed) = missed {
-            say(rt, &missed.unread());
+            match unread_by(alloc, call.request, shelf, missed.unread()) {
+                Some(sentence) => say(rt, &sentence),
+                None => say(rt, &missed.unread()),
+            }
         }
     } else if let Some(request) = call.request {
         say_request(rt, alloc, request, call.account, shelf);

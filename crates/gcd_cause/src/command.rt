@@ -244,6 +244,14 @@ fn bad_value<'a>(option: &str, value: &'a str) -> Option<WordsCause<'a>> {
     }
 }
 
+// Whether the word is a number below zero.
+fn is_below_zero(word: &str) -> bool {
+    match word.strip_prefix('-') {
+        Some(digits) => !digits.is_empty() && digits.bytes().all(|digit| digit.is_ascii_digit()),
+        None => false,
+    }
+}
+
 // What is at fault with a word that must be a number from 1 to `high`.
 fn bad_number<'a>(what: &'static str, word: &'a str, high: u32) -> Option<WordsCause<'a>> {
     if is_number(word, high) {
@@ -318,11 +326,12 @@ impl<'a> Reading<'a> {
     // One word more.
     fn take(&mut self, known: &Command, word: &'a str) -> Option<WordsCause<'a>> {
         if let Some(option) = self.owed {
-            if word.starts_with('-') {
+            let below = bad_value(option, word);
+            if word.starts_with('-') && !(is_below_zero(word) && below.is_some()) {
                 return Some(WordsCause::NoValue { word: option });
             }
             self.owed = None;
-            return bad_value(option, word);
+            return below;
         }
         if !word.starts_with('-') {
             return self.plain(known, word);

@@ -5,7 +5,7 @@
 //! |---|---|
 //! | [`cause_of_script`], [`cause_of_journal`], [`why_words`] | the cause at a line of a script or a journal, or among the words of a command line |
 //! | [`in_the_way`] | what is in the way of an event that may not come |
-//! | [`chain`], [`hold_words`], [`misuse_words`] | what a block waits for, down to the cause; what holds an object; the rule that an act breaks |
+//! | [`Blame`], [`hold_words`], [`misuse_words`] | what each block waits for, down to the cause; what holds an object; the rule that an act breaks |
 //! | [`Places`] | on which line of a script an act, a block or an object stands |
 //! | [`ActWords`], [`EventWords`], [`why_name`], [`code_name`] | acts and events as scripts and journals write them, reasons and codes by their names |
 //! | [`Shown`] | a word of a caller's, as a sentence shows it |
@@ -35,7 +35,7 @@ mod shown;
 mod sight;
 
 pub use barred::Barred;
-pub use blame::{chain, hold_words};
+pub use blame::{Blame, hold_words};
 pub use command::{WordsCause, why_words};
 pub use journal::{JournalWords, cause_of_journal};
 pub use misuses::{code_name, misuse_words};

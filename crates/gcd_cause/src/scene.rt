@@ -36,6 +36,8 @@ pub struct ObjectNow {
     /// Those that have.
     pub expired: u32,
     pub refs: u32,
+    /// The journal time at which it became active.
+    pub active_at: u32,
     pub is_cancelled: bool,
     pub is_delivering: bool,
     /// How many acts the open run of the handler has made.
@@ -62,6 +64,8 @@ pub struct BlockNow {
     pub wait: Option<(Obj, Option<u32>)>,
     /// Whether that wait has expired.
     pub has_expired: bool,
+    /// Whether its limit is `until`, and would be later otherwise.
+    pub is_cut: bool,
 }
 
 /// What events have made of a plan.
@@ -71,6 +75,8 @@ pub struct Scene {
     pub blocks: Vec<BlockNow>,
     /// The runs that workers have: open, and not parked.
     pub having: Vec<(u8, Run)>,
+    /// The waits that have expired at `until`, and would have had a later limit otherwise.
+    pub cuts: Vec<Place>,
     /// Journal time.
     pub time: u32,
     /// Whether the intake is shut.
@@ -93,6 +99,7 @@ fn first_object(plan: &Plan, o: Obj) -> ObjectNow {
         waits: 0,
         expired: 0,
         refs: 1,
+        active_at: 0,
         is_cancelled: false,
         is_delivering: false,
         made: 0,
@@ -109,6 +116,7 @@ const FIRST_BLOCK: BlockNow = BlockNow {
     after: None,
     wait: None,
     has_expired: false,
+    is_cut: false,
 };
 
 fn first_objects(alloc: Global, plan: &Plan) -> Result<Vec<ObjectNow>, AllocError> {
@@ -144,6 +152,7 @@ impl Scene {
             objects,
             blocks,
             having: Vec::new(alloc),
+            cuts: Vec::new(alloc),
             time: 0,
             is_shut: false,
         })
@@ -204,6 +213,7 @@ const NO_OBJECT: ObjectNow = ObjectNow {
     waits: 0,
     expired: 0,
     refs: 1,
+    active_at: 0,
     is_cancelled: false,
     is_delivering: false,
     made: 0,
@@ -349,28 +359,36 @@ impl Scene {
         }
     }
 
-    // The run, which parks, begins this wait, or one without a limit for the end of a block or of a strip.
-    fn wait(&mut self, run: Run, wait: Option<(Obj, Option<u32>)>) {
+    // The run, which parks, begins the wait of this act: one with a limit, or one for the end of a block or of a strip.
+    fn wait(&mut self, run: Run, act: Act, until: u32) {
+        let time = self.time;
         if let Run::Block(b) = run {
             if let Some(now) = self.blocks.get_mut(b.0 as usize) {
-                now.wait = wait;
+                now.wait = begun_wait(act, time, until);
                 now.has_expired = false;
+                now.is_cut = is_past(act, time, until);
             }
         }
     }
 
     // The wait of the block expires.
-    fn expire(&mut self, b: Blk) {
-        let wait = self.block(b).wait;
+    fn expire(&mut self, b: Blk) -> Result<(), AllocError> {
+        let before = self.block(b);
         if let Some(now) = self.blocks.get_mut(b.0 as usize) {
             now.has_expired = true;
         }
-        if let Some((o, _)) = wait {
+        if let Some((o, _)) = before.wait {
             if let Some(now) = self.objects.get_mut(o.0 as usize) {
                 now.waits = now.waits.saturating_sub(1);
                 now.expired = now.expired.saturating_add(1);
             }
         }
+        if before.is_cut {
+            let index = before.made.saturating_sub(1);
+            let run = Run::Block(b);
+            self.cuts.push(Place { run, index })?;
+        }
+        Ok(())
     }
 
     // What an act on an object does to it.
@@ -378,10 +396,15 @@ impl Scene {
         let Some(o) = object_of(act) else {
             return;
         };
+        let time = self.time;
         let Some(now) = self.objects.get_mut(o.0 as usize) else {
             return;
         };
+        let was_active = now.is_active;
         *now = after_act(*now, by, act, is_source);
+        if !was_active && now.is_active {
+            now.active_at = time;
+        }
     }
 
     // The act is made.
@@ -392,8 +415,7 @@ impl Scene {
         self.count(by.run);
         if act.parks() {
             self.give(by.run);
-            let wait = begun_wait(act, self.time, plan.until());
-            self.wait(by.run, wait);
+            self.wait(by.run, act, plan.until());
         }
         self.submitted(plan, by, act);
         let is_source = match object_of(act) {
@@ -447,7 +469,7 @@ impl Scene {
             Event::FeedEnd { src } => self.cancel(src),
             Event::Misuse { .. } => {}
             Event::Halt => {}
-            Event::Expire { blk } => self.expire(blk),
+            Event::Expire { blk } => self.expire(blk)?,
             Event::Accept { blk, .. } => self.accept(plan, blk),
             Event::Shut => self.is_shut = true,
         }
@@ -483,6 +505,14 @@ fn begun_wait(act: Act, now: u32, until: u32) -> Option<(Obj, Option<u32>)> {
         Act::Target(..) | Act::Merge(..) | Act::Cancel(_) => None,
         Act::Retain(_) | Act::Release(_) => None,
         Act::Apply(..) | Act::CancelBlock(_) | Act::WaitBlock(_) | Act::NotifyBlock(..) => None,
+    }
+}
+
+// Whether the wait that the act begins would have a limit past `until`.
+fn is_past(act: Act, now: u32, until: u32) -> bool {
+    match act {
+        Act::GroupWaitFor(_, ms) | Act::WaitFor(_, ms) => now.saturating_add(ms) > until,
+        _ => false,
     }
 }
 

@@ -209,15 +209,55 @@ impl<'a> Sight<'a> {
         None
     }
 
-    /// The first block that has the act still before it, and has not ended; a cancelled block makes none.
-    pub fn left_to(self, act: Act) -> Option<Blk> {
+    /// The first block other than `waiter` that has the act still before it, and has not ended. A cancelled block makes no act.
+    pub fn left_to(self, act: Act, waiter: Blk) -> Option<Blk> {
         for b in 0..self.plan.blocks() {
-            let is_over = self.is_ended(Blk(b)) || self.is_cancelled(Blk(b));
-            if !is_over && self.is_left(Run::Block(Blk(b)), act) {
+            if Blk(b) != waiter && self.has_left(Blk(b), act) {
                 return Some(Blk(b));
             }
         }
         None
+    }
+
+    /// The first block other than `waiter` that still signals the semaphore: one that does not wait there before it signals, if there is
+    /// one.
+    pub fn signaller(self, s: Obj, waiter: Blk) -> Option<Blk> {
+        let mut found = None;
+        for b in 0..self.plan.blocks() {
+            if Blk(b) != waiter && self.has_left(Blk(b), Act::Signal(s)) {
+                if !self.waits_first(Blk(b), s) {
+                    return Some(Blk(b));
+                }
+                if found.is_none() {
+                    found = Some(Blk(b));
+                }
+            }
+        }
+        found
+    }
+
+    // Whether the block waits at the semaphore now, or before its next signal.
+    fn waits_first(self, b: Blk, s: Obj) -> bool {
+        if let Some(Reason::Rank(other, _)) = self.awaited(b) {
+            if other == s {
+                return true;
+            }
+        }
+        let run = Run::Block(b);
+        for index in self.scene.made(run)..acts_of(self.plan, run) {
+            match act_at(self.plan, run, index) {
+                Some(Act::Wait(other) | Act::WaitFor(other, _)) if other == s => return true,
+                Some(Act::Signal(other)) if other == s => return false,
+                _ => {}
+            }
+        }
+        false
+    }
+
+    /// Whether the block has the act still before it, and has not ended.
+    pub fn has_left(self, b: Blk, act: Act) -> bool {
+        let is_over = self.is_ended(b) || self.is_cancelled(b);
+        !is_over && self.is_left(Run::Block(b), act)
     }
 
     // Whether the run has the act still before it.

@@ -2,19 +2,14 @@
 ghost use Rattle.std.specs.Prelude.{◌<◌, ◌^◌, length};
 
 use crate::barred::find_barred;
+use crate::noting::{Left, MAX_SAID, may_have_notes, notes};
 use crate::sentence::Sentence;
-use gcd_cause::{
-    ActWords, BlockNow, Place, Places, Scene, Sight, act_at, chain, code_name, hold_words, kind_of,
-    misuse_words,
-};
+use gcd_cause::{ActWords, Blame, Place, Places, Scene, Sight, act_at, code_name, misuse_words};
 use gcd_event::{Entry, Event};
 use gcd_history::State;
 use gcd_machine::Machine;
-use gcd_plan::{Blk, MAX_EVENTS, Obj, Plan, Run, Why};
+use gcd_plan::{Blk, MAX_EVENTS, Plan, Run};
 use std::alloc::{AllocError, Global};
-
-/// The most sentences that are said of a run.
-const MAX_SAID: usize = 200;
 
 /// A run that is over.
 #[derive(Clone, Copy)]
@@ -35,6 +30,7 @@ struct Saying<'a> {
     most: u32,
     file: &'a str,
     places: Places,
+    blame: Blame,
     said: Vec<Sentence<'a>>,
 }
 
@@ -71,14 +67,21 @@ impl<'a> Saying<'a> {
         self.places.line_of(now.by)
     }
 
+    // What a block waits for, unless it is in a cycle that was told.
+    fn waiting(&mut self, sight: Sight, b: Blk) -> Result<(), AllocError> {
+        let Some(text) = self.blame.chain(sight, b)? else {
+            return Ok(());
+        };
+        let line = self.line_of_block(sight, b);
+        self.add(line, text)
+    }
+
     // What a block waits for, where it is parked.
     fn parked(&mut self, sight: Sight, b: Blk) -> Result<(), AllocError> {
         if sight.awaited(b).is_none() {
             return Ok(());
         }
-        let text = chain(self.alloc, sight, b)?;
-        let line = self.line_of_block(sight, b);
-        self.add(line, text)
+        self.waiting(sight, b)
     }
 
     // What a block waits for, where it is submitted and has not started.
@@ -86,9 +89,7 @@ impl<'a> Saying<'a> {
         if sight.is_started(b) || !sight.is_submitted(b) {
             return Ok(());
         }
-        let text = chain(self.alloc, sight, b)?;
-        let line = self.line_of_block(sight, b);
-        self.add(line, text)
+        self.waiting(sight, b)
     }
 
     // What each parked block waits for, and then each that has not started.
@@ -108,41 +109,20 @@ impl<'a> Saying<'a> {
         Ok(())
     }
 
-    // That a notify block never came.
-    fn note_block(&mut self, sight: Sight, b: Blk) -> Result<(), AllocError> {
-        if sight.is_submitted(b) {
+    // The notes on what is left undone.
+    fn notes(&mut self, sight: Sight, text: &[u8], is_stuck: bool) -> Result<(), AllocError> {
+        if !may_have_notes(sight.plan, sight.machine) {
             return Ok(());
         }
-        let now = sight.scene.block(b);
-        let Some(cause) = unnotified(self.alloc, sight, now)? else {
-            return Ok(());
+        let left = Left {
+            file: self.file,
+            text,
+            places: &self.places,
+            sight,
+            is_stuck,
         };
-        let (name, cause) = (sight.name_of_block(b), cause.as_str());
-        let text = format!(in self.alloc; "note: {name} was never submitted: {cause}")?;
-        let line = self.places.line_of(now.by);
-        self.add(line, text)
-    }
-
-    // That data was never delivered.
-    fn note_source(&mut self, sight: Sight, s: Obj) -> Result<(), AllocError> {
-        let pending = sight.pending(s);
-        if pending == 0 || !kind_of(sight.plan, s).is_source() {
-            return Ok(());
-        }
-        let name = sight.name_of_object(s);
-        let why = undelivered(self.alloc, sight, s)?;
-        let text = format!(in self.alloc; "note: {pending} of {name} was never delivered: {why}")?;
-        let line = self.places.line_of_object(s);
-        self.add(line, text)
-    }
-
-    // The notes on what never came.
-    fn notes(&mut self, sight: Sight) -> Result<(), AllocError> {
-        for b in 0..sight.plan.blocks() {
-            self.note_block(sight, Blk(b))?;
-        }
-        for s in 0..sight.plan.objects() {
-            self.note_source(sight, Obj(s))?;
+        for note in notes(self.alloc, left)? {
+            self.add(note.line, note.text)?;
         }
         Ok(())
     }
@@ -188,22 +168,6 @@ impl<'a> Saying<'a> {
     }
 }
 
-// What a notify block still waits for; None for any other block.
-fn unnotified(alloc: Global, sight: Sight, now: BlockNow) -> Result<Option<String>, AllocError> {
-    if let Some(g) = now.notify {
-        let (group, state) = (sight.name_of_object(g), sight.scene.object(g));
-        let count = state.enters.saturating_add(state.members);
-        let text = format!(in alloc; "group {group} still counts {count}")?;
-        return Ok(Some(text));
-    }
-    if let Some(first) = now.after {
-        let block = sight.name_of_block(first);
-        let text = format!(in alloc; "{block} has not ended")?;
-        return Ok(Some(text));
-    }
-    Ok(None)
-}
-
 // How to let a run have more events than these, where one may.
 fn more_words(most: u32) -> &'static str {
     if most < MAX_EVENTS {
@@ -213,34 +177,19 @@ fn more_words(most: u32) -> &'static str {
     }
 }
 
-// Why nothing is delivered of a source at which something is pending.
-fn undelivered(alloc: Global, sight: Sight, s: Obj) -> Result<String, AllocError> {
-    let name = sight.name_of_object(s);
-    if sight.scene.object(s).is_cancelled {
-        return format!(in alloc; "{name} is cancelled");
-    }
-    match (sight.bars_deliver(s), sight.held(s), sight.excluding(s)) {
-        (Some(Why::NotFree), Some(o), _) => hold_words(alloc, sight, o),
-        (Some(Why::Excluded), _, Some((o, run))) => {
-            let (object, other) = (sight.name_of_object(o), sight.name_of(run));
-            format!(in alloc; "{other} is open beneath {object}")
-        }
-        _ => String::from_str(alloc, "the run ended before"),
-    }
-}
-
 // What is said of a run that has come to this state.
 fn say_state(
     saying: &mut Saying,
     sight: Sight,
     state: State,
+    text: &[u8],
     events: &[Entry],
 ) -> Result<(), AllocError> {
     match state {
-        State::Drained => saying.notes(sight),
+        State::Drained => saying.notes(sight, text, false),
         State::Stuck => {
             saying.stuck(sight)?;
-            saying.notes(sight)
+            saying.notes(sight, text, true)
         }
         State::Misused => {
             let Some(last) = events.last() else {
@@ -268,27 +217,11 @@ fn say_state(
     }
 }
 
-// Whether a run that is over may have left something to note: a block that was never submitted, or data that was never delivered. It looks
-// at each block and object once, and at no event.
-fn may_have_notes(machine: &Machine) -> bool {
-    for b in 1..machine.blocks() {
-        if machine.node_of(Blk(b)).is_none() {
-            return true;
-        }
-    }
-    for s in 0..machine.objects() {
-        if machine.pending_of(Obj(s)) > 0 {
-            return true;
-        }
-    }
-    false
-}
-
 impl RunEnd<'_> {
     // Whether anything may be said of it.
     fn has_sentences(self) -> bool {
         match self.machine.state() {
-            State::Drained => may_have_notes(self.machine),
+            State::Drained => may_have_notes(self.plan, self.machine),
             State::Stuck => true,
             State::Misused => true,
             State::Halted => false,
@@ -309,6 +242,7 @@ impl RunEnd<'_> {
             most: self.most,
             file,
             places: Places::of(alloc, self.plan, text)?,
+            blame: Blame::new(alloc),
             said: Vec::new(alloc),
         };
         let sight = Sight {
@@ -316,12 +250,13 @@ impl RunEnd<'_> {
             machine: self.machine,
             scene,
         };
-        say_state(&mut saying, sight, self.machine.state(), self.events)?;
+        say_state(&mut saying, sight, self.machine.state(), text, self.events)?;
         let Saying {
             alloc: _,
             most: _,
             file: _,
             places: _,
+            blame: _,
             said,
         } = saying;
         Ok(said)
@@ -329,12 +264,11 @@ impl RunEnd<'_> {
 }
 
 /// Says why a run ended as it did; the script's name and text give the lines. Of a stuck run it says what each parked block, and each
-/// block that is submitted and has not started, waits for, down to the cause, and of a cycle that it is one. Of a stuck or drained run it
-/// also says which notify blocks never came, and what was never delivered. Of a misuse it says the act and the rule that the act breaks. Of
-/// a run that has as many events as it may have, and goes on, it says how far the run came, and that a greater `--most` lets it go on. It
-/// says no more than 200 sentences.
+/// block that is submitted and has not started, waits for, down to the cause, and it tells each cycle once. Of a stuck or drained run it
+/// also notes what was left undone. Of a misuse it says the act and the rule that the act breaks. Of a run that has as many events as it
+/// may have, and goes on, it says how far the run came, and that a greater `--most` lets it go on. It says no more than 200 sentences.
 ///
-/// If nothing is to be said, it looks once at each block and object, and not at the events. Returns `Err` only if memory runs out.
+/// If nothing is to be said, it looks once at each block and object of the plan, and not at the events. Returns `Err` only if memory runs out.
 pub fn why_ended<'a>(
     alloc: Global,
     end: RunEnd,

@@ -1,0 +1,55 @@
+// A clock that says that it waits.
+ghost use Rattle.std.specs.Prelude.{◌≡◌};
+
+use gcd_outer::Clock;
+
+/// How far a moment must be ahead for the clock to say that it waits, in milliseconds.
+const PATIENCE: u64 = 2000;
+
+/// A clock that says on standard error that it waits, if that takes long and a person watches. It counts from its first answer, as a
+/// run does.
+#[derive(Drop)]
+pub struct WaitingClock<'a, R: Eprint, C: Clock> {
+    rt: &'a R,
+    clock: C,
+    is_watched: bool,
+    start: Option<u64>,
+}
+
+impl<'a, R: Eprint, C: Clock> WaitingClock<'a, R, C> {
+    /// The clock over another one.
+    pub fn new(rt: &'a R, clock: C, is_watched: bool) -> Self
+        ensures { ⟦<WaitingClock<'a, R, C> as Clock>⟧.state result ≡ C.state clock }
+    {
+        WaitingClock {
+            rt,
+            clock,
+            is_watched,
+            start: None,
+        }
+    }
+}
+
+impl<'a, R: Eprint, C: Clock> Clock for WaitingClock<'a, R, C> {
+    ghost tells = { C.tells };
+
+    ghost state = { λ c. C.state c.clock };
+
+    fn now(&mut self) -> u64 {
+        let now = self.clock.now();
+        if self.start.is_none() {
+            self.start = Some(now);
+        }
+        now
+    }
+
+    fn wait_until(&mut self, t: u64) {
+        if self.is_watched {
+            if t.saturating_sub(self.clock.now()) > PATIENCE {
+                let due = t.saturating_sub(self.start.unwrap_or(0));
+                let _ = eprintln!(self.rt; "waiting until {due} ms");
+            }
+        }
+        self.clock.wait_until(t)
+    }
+}
