@@ -68,7 +68,7 @@ pub fn push_ending(
     let letters = (drawing.frame.texts() / LETTER).saturating_sub(6) as usize;
     let mut y = push_line(into, "state", drawing.showing.state, MARGIN, top)?;
     for note in drawing.showing.notes {
-        let (line, text) = (note.line, note.text.as_str());
+        let (line, text) = (note.line, note.text);
         let said = if line > 0 {
             format!(in alloc; "line {line}: {text}")?
         } else {
@@ -77,8 +77,9 @@ pub fn push_ending(
         y = push_wrapped(alloc, into, said.as_str(), letters, y)?;
     }
     if left_out > 0 {
+        let times = if left_out == 1 { "time" } else { "times" };
         let said = format!(in alloc;
-            "not drawn: {left_out} parked times, of lanes with more than 24 at once"
+            "not drawn: {left_out} parked {times}, of lanes with more than 24 at once"
         )?;
         y = push_line(into, "note", said.as_str(), MARGIN, y)?;
     }

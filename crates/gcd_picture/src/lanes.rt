@@ -63,7 +63,8 @@ fn push_bar(into: &mut String, drawing: Drawing, bar: &Bar) -> Result<(), AllocE
     into.push_str("</rect>\n")
 }
 
-// The path of a parked time: down from the bar that ends in it, along its row, and to the bar that goes on, where one does.
+// The path of a parked time: down from the bar that ends in it, along its row, and to the bar that goes on or, if none does, to the
+// edge of the lane.
 fn push_path(
     into: &mut String,
     drawing: Drawing,
@@ -77,7 +78,7 @@ fn push_path(
     let (x, until) = (frame.scale.at(bar.to), frame.scale.at(next));
     let (from, y) = (frame.bars(lane).saturating_add(BAR), frame.row(lane, row));
     if next >= drawing.showing.events.len() {
-        let edge = frame.width();
+        let edge = frame.scale.right();
         return write!(
             into,
             "<path class=\"parked still\" d=\"M{x} {from}V{y}H{edge}\">"

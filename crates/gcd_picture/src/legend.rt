@@ -1,8 +1,9 @@
-// What the colours and lines of a page mean.
+// What the colours and signs of a page mean.
 
 use crate::drawing::Drawing;
 use crate::naming::object_name;
 use crate::swatches::{Pen, push_entry};
+use gcd_event::Event;
 use gcd_plan::{Obj, Plan};
 use std::alloc::{AllocError, Global};
 
@@ -51,7 +52,7 @@ fn push_node(
     push_entry(into, pen, drawing.frame.texts(), swatch.as_str(), words)
 }
 
-// The nodes that have runs, each with its colour; and the colour of what is on none.
+// The nodes that have bars, each with its colour, and before them the colour of bars on none.
 fn push_nodes(
     alloc: Global,
     into: &mut String,
@@ -59,7 +60,9 @@ fn push_nodes(
     pen: &mut Pen,
 ) -> Result<(), AllocError> {
     let plan = drawing.showing.plan;
-    push_node(alloc, into, drawing, pen, None, "main, on no queue")?;
+    if drawing.bars.iter().any(|bar| bar.node.is_none()) {
+        push_node(alloc, into, drawing, pen, None, "main, on no queue")?;
+    }
     let used = used(alloc, drawing)?;
     let mut named = 0usize;
     for o in 0..plan.objects() {
@@ -72,72 +75,145 @@ fn push_nodes(
     Ok(())
 }
 
-// What each kind of line means.
-static SIGNS: [(&str, &str); 10] = [
+// A sign of a page.
+#[derive(Clone, Copy, PartialEq, Eq)]
+enum Sign {
+    Barrier,
+    Delivery,
+    Parked,
+    Still,
+    NotEnded,
+    Tick,
+    Feed,
+    Expiry,
+    Misuse,
+    Halt,
+    Cancelled,
+    Job,
+}
+
+// How each sign looks, and what it means.
+static KEY: [(Sign, &str, &str); 12] = [
     (
+        Sign::Barrier,
         "<rect class=\"barrier\" width=\"20\" height=\"14\" rx=\"2\" fill=\"#fff\"/>",
         "barrier",
     ),
     (
+        Sign::Delivery,
         "<rect class=\"delivery\" width=\"20\" height=\"14\" rx=\"7\" fill=\"#fff\"/>",
         "delivery",
     ),
-    ("<path class=\"parked\" d=\"M0 7H20\"/>", "parked, for what"),
     (
+        Sign::Parked,
+        "<path class=\"parked\" d=\"M0 7H20\"/>",
+        "parked, for what",
+    ),
+    (
+        Sign::Still,
         "<path class=\"parked still\" d=\"M0 7H20\"/>",
         "parked to the end",
     ),
     (
+        Sign::NotEnded,
         "<rect class=\"block open\" width=\"20\" height=\"14\" rx=\"2\" fill=\"#fff\"/>",
         "not ended",
     ),
-    ("<path class=\"tick\" d=\"M10 0V14\"/>", "tick"),
-    ("<path class=\"ready\" d=\"M10 0V14\"/>", "feed"),
-    ("<path class=\"expiry\" d=\"M10 0V14\"/>", "wait expired"),
+    (Sign::Tick, "<path class=\"tick\" d=\"M10 0V14\"/>", "tick"),
+    (Sign::Feed, "<path class=\"ready\" d=\"M10 0V14\"/>", "feed"),
     (
+        Sign::Expiry,
+        "<path class=\"expiry\" d=\"M10 0V14\"/>",
+        "wait expired",
+    ),
+    (
+        Sign::Misuse,
         "<path class=\"misuse\" d=\"M10 7m-7 -7l14 14m0 -14l-14 14\"/>",
         "misuse",
     ),
-    ("<path class=\"halt\" d=\"M10 0V14\"/>", "halt"),
+    (Sign::Halt, "<path class=\"halt\" d=\"M10 0V14\"/>", "halt"),
+    (
+        Sign::Cancelled,
+        "<rect class=\"cancelled\" width=\"20\" height=\"14\" rx=\"2\" fill=\"#555\"/>",
+        "cancelled",
+    ),
+    (
+        Sign::Job,
+        "<path class=\"accept\" d=\"M10 0V14\"/>",
+        "job from outside",
+    ),
 ];
 
-// The sign of a block that is cancelled, and that of a job from outside.
-static CANCELLED: (&str, &str) = (
-    "<rect class=\"cancelled\" width=\"20\" height=\"14\" rx=\"2\" fill=\"#555\"/>",
-    "cancelled",
-);
+// Whether a bar of this kind is on the page.
+fn has_kind(drawing: Drawing, kind: &str) -> bool {
+    drawing.bars.iter().any(|bar| bar.kind() == kind)
+}
 
-static ACCEPT: (&str, &str) = (
-    "<path class=\"accept\" d=\"M10 0V14\"/>",
-    "job from outside",
-);
+// Whether a parked time is drawn that leads to a later bar, or else one that does not.
+fn has_parked(drawing: Drawing, is_woken: bool) -> bool {
+    let events = drawing.showing.events.len();
+    drawing.bars.iter().enumerate().any(|(number, bar)| {
+        let is_drawn = drawing.parking.row(number).is_some();
+        match bar.parked {
+            Some((_, next)) => is_drawn && (next < events) == is_woken,
+            None => false,
+        }
+    })
+}
 
-// What each kind of line means; of cancelled blocks and of jobs from outside only where there may be any.
+// The sign of an event that is drawn over the lanes.
+fn sign_of(event: Event) -> Option<Sign> {
+    match event {
+        Event::Tick { .. } => Some(Sign::Tick),
+        Event::Ready { .. } | Event::FeedEnd { .. } => Some(Sign::Feed),
+        Event::Expire { .. } => Some(Sign::Expiry),
+        Event::Misuse { .. } => Some(Sign::Misuse),
+        Event::Halt => Some(Sign::Halt),
+        Event::Accept { .. } | Event::Shut => Some(Sign::Job),
+        Event::Start { .. } | Event::Act { .. } | Event::Wake { .. } | Event::End { .. } => None,
+        Event::Deliver { .. } | Event::DeliverEnd { .. } => None,
+    }
+}
+
+// Whether a sign is on the page.
+fn is_used(drawing: Drawing, sign: Sign) -> bool {
+    let events = drawing.showing.events;
+    match sign {
+        Sign::Barrier => has_kind(drawing, "barrier"),
+        Sign::Delivery => has_kind(drawing, "delivery"),
+        Sign::Cancelled => has_kind(drawing, "cancelled"),
+        Sign::Parked => has_parked(drawing, true),
+        Sign::Still => has_parked(drawing, false),
+        Sign::NotEnded => drawing.bars.iter().any(|bar| bar.to >= events.len()),
+        Sign::Tick | Sign::Feed | Sign::Expiry | Sign::Misuse | Sign::Halt | Sign::Job => {
+            events
+                .iter()
+                .any(|entry| sign_of(entry.event()) == Some(sign))
+        }
+    }
+}
+
+// What each sign on the page means.
 fn push_signs(into: &mut String, drawing: Drawing, pen: &mut Pen) -> Result<(), AllocError> {
-    let width = drawing.frame.texts();
-    for (swatch, word) in &SIGNS {
-        push_entry(into, pen, width, swatch, word)?;
-    }
-    if drawing.bars.iter().any(|bar| bar.is_cancelled) {
-        push_entry(into, pen, width, CANCELLED.0, CANCELLED.1)?;
-    }
-    if drawing.showing.plan.intake().is_some() {
-        push_entry(into, pen, width, ACCEPT.0, ACCEPT.1)?;
+    for (sign, swatch, words) in &KEY {
+        if is_used(drawing, *sign) {
+            push_entry(into, pen, drawing.frame.texts(), swatch, words)?;
+        }
     }
     Ok(())
 }
 
-/// Adds the legend, from this height on, and gives the height of the page.
+/// Adds the key to the colours and signs that are on the page, from this height on, and returns the height of the page.
 pub fn push_legend(
     alloc: Global,
     into: &mut String,
     drawing: Drawing,
     top: u64,
 ) -> Result<u64, AllocError> {
-    let mut pen = Pen { x: 12, y: top };
+    let mut pen = Pen::at(top);
     push_nodes(alloc, into, drawing, &mut pen)?;
-    pen.x = 12;
-    pen.y = pen.y.saturating_add(22);
+    pen.end_line();
     push_signs(into, drawing, &mut pen)?;
-    Ok(pen.y.saturating_add(26))
+    pen.end_line();
+    Ok(pen.y.saturating_add(4))
 }

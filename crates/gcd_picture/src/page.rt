@@ -117,9 +117,10 @@ fn push_title(into: &mut String, drawing: Drawing) -> Result<(), AllocError> {
     let (events, state) = (drawing.showing.events.len(), drawing.showing.state);
     let workers = if lanes == 1 { "worker" } else { "workers" };
     let word = if runs == 1 { "run" } else { "runs" };
+    let of_events = if events == 1 { "event" } else { "events" };
     write!(
         into,
-        "<text class=\"title\" x=\"12\" y=\"20\">{runs} {word} by {lanes} {workers}, {events} events: {state}</text>\n"
+        "<text class=\"title\" x=\"12\" y=\"20\">{runs} {word} by {lanes} {workers}, {events} {of_events}: {state}</text>\n"
     )
 }
 

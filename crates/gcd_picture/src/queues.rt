@@ -3,8 +3,8 @@
 use gcd_plan::{Act, Blk, Obj, Plan, Run};
 use std::alloc::{AllocError, Global};
 
-/// The queue of each block, by number: the one to which the plan submits it, and None for `main`, which it submits to none, and for
-/// a block that nothing submits; and whether it is a barrier there.
+/// The node of each block, by number: the queue to which the plan submits it, for a source's cancellation block the source, and None
+/// for `main` and for a block that nothing submits; and whether it is a barrier there.
 #[derive(Drop)]
 pub struct Queues {
     blocks: Vec<Option<Obj>>,
@@ -78,10 +78,10 @@ fn submitted(plan: &Plan, act: Act) -> Option<Span> {
     }
 }
 
-// The queue to which a source's cancellation block is submitted, and the block.
+// The cancellation block of a source, which is submitted on the source itself.
 fn cancelled(plan: &Plan, s: Obj) -> Option<Span> {
     if s.0 < plan.objects() {
-        plan.cancel_block(s).map(|b| one(plan.first_target(s), b))
+        plan.cancel_block(s).map(|b| one(s, b))
     } else {
         None
     }
@@ -125,7 +125,7 @@ impl Queues {
         Ok(Queues { blocks, barriers })
     }
 
-    /// The node of a run: a block's queue, and a source itself.
+    /// The node of a run.
     pub fn of(&self, run: Run) -> Option<Obj> {
         match run {
             Run::Block(b) => self.blocks.get(b.0 as usize).copied().unwrap_or(None),

@@ -3,19 +3,19 @@
 use crate::script_lines::ScriptLines;
 use gcd_event::Entry;
 use gcd_plan::Plan;
-use gcd_timeline::Mark;
+use gcd_timeline::{Mark, Standing};
 
 /// A sentence on how a run ended, and the line of the script that it is about, from 1; 0 is none.
-#[derive(Drop)]
-pub struct Note {
+#[derive(Clone, Copy)]
+pub struct Note<'a> {
     /// The line; 0 where there is none.
     pub line: u32,
     /// The sentence.
-    pub text: String,
+    pub text: &'a str,
 }
 
-/// A journal to be shown: the events with their marks ([`gcd_timeline::marks`]), in which state they have come to rest, and the
-/// lines of the script.
+/// A journal to be shown: the events with their marks ([`gcd_timeline::marks`]), how the blocks stand after them
+/// ([`gcd_timeline::standings`]), the state to which they have come, and the lines of the script.
 #[derive(Clone, Copy)]
 pub struct Showing<'a> {
     /// The plan of the journal.
@@ -24,10 +24,12 @@ pub struct Showing<'a> {
     pub marks: &'a [Mark],
     /// The events, from the first on.
     pub events: &'a [Entry],
+    /// How each block stands after the events, by number.
+    pub standings: &'a [Standing],
     /// The state to which they have come, in a word.
     pub state: &'a str,
     /// Why they have come to it.
-    pub notes: &'a [Note],
+    pub notes: &'a [Note<'a>],
     /// Where the blocks and acts stand in the script.
     pub lines: &'a ScriptLines,
 }

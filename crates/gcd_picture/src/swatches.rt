@@ -14,12 +14,28 @@ pub struct Pen {
     pub y: u64,
 }
 
-// Room for a swatch and so many letters: on this line, or on the next one where the page is not as wide.
+// Where a line begins.
+const MARGIN: u64 = 12;
+
+impl Pen {
+    /// A pen at the begin of a line at this height.
+    pub fn at(y: u64) -> Pen {
+        Pen { x: MARGIN, y }
+    }
+
+    /// Goes on to the next line, unless nothing is on this one.
+    pub fn end_line(&mut self) {
+        if self.x > MARGIN {
+            *self = Pen::at(self.y.saturating_add(22));
+        }
+    }
+}
+
+// Takes room for a swatch and so many letters, on this line or, if the page is not as wide, on the next one.
 fn advance(pen: &mut Pen, letters: usize, width: u64) -> u64 {
     let room = (letters as u64).saturating_mul(LETTER).saturating_add(40);
     if pen.x.saturating_add(room) > width {
-        pen.x = 12;
-        pen.y = pen.y.saturating_add(22);
+        pen.end_line();
     }
     let x = pen.x;
     pen.x = x.saturating_add(room);

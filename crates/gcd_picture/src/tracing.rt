@@ -253,7 +253,7 @@ fn push_ending(into: &mut String, showing: Showing) -> Result<(), AllocError> {
             let line = note.line;
             write!(into, "line {line}: ")?;
         }
-        push_json(into, note.text.as_str())?;
+        push_json(into, note.text)?;
         into.push_str("\"")?;
     }
     into.push_str("]}},\n")

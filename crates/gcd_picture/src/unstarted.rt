@@ -3,54 +3,35 @@
 use crate::drawing::Drawing;
 use crate::naming::{node_name, run_name};
 use crate::queues::Queues;
-use crate::submissions::Submissions;
+use crate::showing::Showing;
 use crate::swatches::{Pen, push_entry};
 use gcd_plan::{Blk, Obj, Run};
+use gcd_timeline::Standing;
 use std::alloc::{AllocError, Global};
 use std::fmt::Write;
 
-// How many of them are shown at most of those that are submitted, and of those that are not.
+// The most blocks that are shown under a heading.
 const SHOWN: usize = 60;
 
-// The blocks that were submitted and have not started, and those that were not submitted.
-#[derive(Drop)]
-struct Unstarted {
-    submitted: Vec<Run>,
-    others: Vec<Run>,
-}
+// What is shown, in order, and its heading.
+static HEADINGS: [(Standing, &str); 2] = [
+    (Standing::Waiting, "submitted and not started"),
+    (Standing::Unsubmitted, "not submitted"),
+];
 
-// Whether each block has a mark.
-fn started(alloc: Global, drawing: Drawing) -> Result<Vec<bool>, AllocError> {
-    let mut started = vec![in alloc; false; drawing.showing.plan.blocks() as usize]?;
-    for mark in drawing.showing.marks {
-        if let Run::Block(b) = mark.run {
-            if let Some(entry) = started.get_mut(b.0 as usize) {
-                *entry = true;
-            }
+// The blocks that stand so, by number.
+fn blocks_that(
+    alloc: Global,
+    showing: Showing,
+    standing: Standing,
+) -> Result<Vec<Run>, AllocError> {
+    let mut runs = Vec::new(alloc);
+    for b in 0..showing.plan.blocks() {
+        if showing.standings.get(b as usize).copied() == Some(standing) {
+            runs.push(Run::Block(Blk(b)))?;
         }
     }
-    Ok(started)
-}
-
-fn find_unstarted(alloc: Global, drawing: Drawing) -> Result<Unstarted, AllocError> {
-    let plan = drawing.showing.plan;
-    let submissions = Submissions::new(alloc, plan, drawing.showing.events)?;
-    let started = started(alloc, drawing)?;
-    let mut found = Unstarted {
-        submitted: Vec::new(alloc),
-        others: Vec::new(alloc),
-    };
-    for b in 0..plan.blocks() {
-        let run = Run::Block(Blk(b));
-        if !started.get(b as usize).copied().unwrap_or(true) {
-            if b == 0 || submissions.of(run).is_some() {
-                found.submitted.push(run)?;
-            } else {
-                found.others.push(run)?;
-            }
-        }
-    }
-    Ok(found)
+    Ok(runs)
 }
 
 // A pale swatch in the colour of a run's queue, with the names of both.
@@ -96,10 +77,7 @@ fn push_runs(
         into,
         "<text class=\"state\" x=\"12\" y=\"{top}\">{said}: {count}{more}</text>\n"
     )?;
-    let mut pen = Pen {
-        x: 12,
-        y: top.saturating_add(8),
-    };
+    let mut pen = Pen::at(top.saturating_add(8));
     for (number, run) in runs.iter().enumerate() {
         if number < SHOWN {
             push_swatch(alloc, into, drawing, &mut pen, *run, queues.of(*run))?;
@@ -108,8 +86,8 @@ fn push_runs(
     Ok(pen.y.saturating_add(38))
 }
 
-/// Adds the blocks that have not started, in the colours of their queues, from this height on: those that were submitted, and those
-/// that were not; and gives the height beneath.
+/// Adds the blocks that have not started, in the colours of their queues, from this height on: those that are submitted, and those
+/// that are not. Returns the height beneath.
 pub fn push_unstarted(
     alloc: Global,
     into: &mut String,
@@ -117,25 +95,10 @@ pub fn push_unstarted(
     top: u64,
 ) -> Result<u64, AllocError> {
     let queues = Queues::new(alloc, drawing.showing.plan)?;
-    let found = find_unstarted(alloc, drawing)?;
-    let said = "submitted and not started";
-    let below = push_runs(
-        alloc,
-        into,
-        drawing,
-        &queues,
-        found.submitted.as_slice(),
-        said,
-        top,
-    )?;
-    let said = "not submitted";
-    push_runs(
-        alloc,
-        into,
-        drawing,
-        &queues,
-        found.others.as_slice(),
-        said,
-        below,
-    )
+    let mut below = top;
+    for (standing, said) in &HEADINGS {
+        let runs = blocks_that(alloc, drawing.showing, *standing)?;
+        below = push_runs(alloc, into, drawing, &queues, &runs, said, below)?;
+    }
+    Ok(below)
 }

@@ -1,18 +1,64 @@
 // Why nothing is shown.
 
+use crate::status::Status;
+use clap::error::{Error, ErrorKind};
+use gcd_why::{NO_MEMORY, Sentence, Unread};
+use std::alloc::AllocError;
+use std::fmt;
+
 /// Why nothing is shown.
-#[derive(Clone, Copy)]
-pub enum Stop {
-    /// The words are no call of the program.
-    NoCall,
-    /// The script or the journal can't be read.
-    Unread,
-    /// The script is refused at this line, from 1, with this code; line 0 is the script as a whole.
-    Script { line: u32, code: u8 },
-    /// The journal is refused at this line, from 1; line 0 is the journal as a whole.
-    Journal { line: u32 },
-    /// The event at this index, from 0, is the first that is not permitted.
-    Event { index: u32 },
+#[derive(Drop)]
+pub enum Stop<'a> {
+    /// The words are no call of the program, or ask for help or the version: the parser's answer.
+    Words(Error),
+    /// The script or the journal under this path cannot be read.
+    Unread { path: &'a str },
+    /// The script is refused, as the sentence says.
+    Script(Sentence<'a>),
+    /// The journal is refused, as the sentence says.
+    Journal(Sentence<'a>),
     /// Memory ran out.
     Memory,
+}
+
+impl<'a> Stop<'a> {
+    /// How the program ends.
+    pub fn status(&self) -> Status {
+        match self {
+            Stop::Words(_) => Status::NoCall,
+            Stop::Unread { .. } => Status::Unread,
+            Stop::Script(_) => Status::ScriptRefused,
+            Stop::Journal(_) => Status::JournalRefused,
+            Stop::Memory => Status::NoMemory,
+        }
+    }
+}
+
+impl<'a> From<AllocError> for Stop<'a> {
+    fn from(_: AllocError) -> Stop<'a> {
+        Stop::Memory
+    }
+}
+
+impl<'a> From<Error> for Stop<'a> {
+    fn from(error: Error) -> Stop<'a> {
+        match error.kind() {
+            ErrorKind::OutOfMemory => Stop::Memory,
+            _ => Stop::Words(error),
+        }
+    }
+}
+
+impl<'a> fmt::Display for Stop<'a> {
+    fn fmt<W: fmt::Write>(&self, f: &mut fmt::Formatter<W>) -> fmt::Result {
+        match self {
+            Stop::Words(error) => write!(f, "{error}"),
+            Stop::Unread { path } => {
+                let unread = Unread::File { path, said: "" };
+                write!(f, "{unread}")
+            }
+            Stop::Script(sentence) | Stop::Journal(sentence) => write!(f, "{sentence}"),
+            Stop::Memory => f.write_str(NO_MEMORY),
+        }
+    }
 }
