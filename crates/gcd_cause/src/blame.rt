@@ -81,7 +81,7 @@ fn for_strip(alloc: Global, sight: Sight, a: u32) -> Result<Link, AllocError> {
         Some(b) => {
             let block = sight.name_of_block(b);
             let words = format!(in alloc;
-                "waits for strip {name}, of which {left} blocks have not ended, and so for {block}"
+                "waits for strip {name} ({left} of its blocks not ended), and so for {block}"
             )?;
             Ok(linked(words, Some(b)))
         }

@@ -213,7 +213,7 @@ pub fn awaited_words(alloc: Global, sight: Sight, reason: Reason) -> Result<Stri
         }
         Reason::Strip(a) => {
             let (name, (_, left)) = (sight.name_of_strip(a), sight.left_of_strip(a));
-            format!(in alloc; "strip {name}, of which {left} blocks have not ended")
+            format!(in alloc; "strip {name} ({left} of its blocks not ended)")
         }
         Reason::Rank(s, rank) => {
             let name = sight.name_of_object(s);

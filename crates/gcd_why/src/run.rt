@@ -162,7 +162,7 @@ impl<'a> Saying<'a> {
         let (most, time) = (self.most, sight.scene.time);
         let more = more_words(most);
         let text = format!(in self.alloc;
-            "the run has {most} events, the most that it may have (--most {most}), and goes on: {ended} blocks have ended, {open} are open, {left} wait for their start, at {time} ms{more}"
+            "the run has as many events as it may have (--most {most}), and goes on; blocks ended: {ended}, open: {open}, not started: {left}; time: {time} ms{more}"
         )?;
         self.add(0, text)
     }
