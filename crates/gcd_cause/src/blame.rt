@@ -322,12 +322,7 @@ fn chain_from(alloc: Global, sight: Sight, b: Blk) -> Result<Chain, AllocError> 
 }
 
 // The first so many words, each after the first as what is said of the block before it.
-fn joined(
-    alloc: Global,
-    name: &str,
-    words: &[String],
-    count: usize,
-) -> Result<String, AllocError> {
+fn joined(alloc: Global, name: &str, words: &[String], count: usize) -> Result<String, AllocError> {
     let mut said = format!(in alloc; "{name} ")?;
     for (at, part) in words.iter().take(count).enumerate() {
         if at > 0 {
@@ -387,9 +382,8 @@ impl Blame {
     ) -> Result<(usize, &'static str), AllocError> {
         let members = blocks.get(place..).unwrap_or(&[]);
         let told = self.told.as_slice();
-        let is_elsewhere = members
-            .iter()
-            .any(|member| is_told(sight, *member) || place_in(told, *member).is_some());
+        let is_elsewhere = members.iter().any(|member| is_told(sight, *member)
+            || place_in(told, *member).is_some());
         if place > 0 && is_elsewhere {
             return Ok((place, ", which is in a cycle"));
         }
