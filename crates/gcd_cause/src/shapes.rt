@@ -104,11 +104,12 @@ fn write_shape<W: fmt::Write>(
 
 /// All forms of the first word of a line.
 pub fn write_forms<W: fmt::Write>(f: &mut fmt::Formatter<W>, first: &str) -> fmt::Result {
-    let mut between = "";
+    let mut is_first = true;
     for (other, shape) in SHAPES.as_slice() {
         if *other == first {
+            let between = if is_first { "" } else { "; " };
             write_shape(f, between, first, *shape)?;
-            between = "; ";
+            is_first = false;
         }
     }
     Ok(())
@@ -121,11 +122,12 @@ pub fn write_fitting<W: fmt::Write>(
     words: &Words,
     place: u8,
 ) -> fmt::Result {
-    let mut between = before;
+    let mut is_first = true;
     for (first, shape) in SHAPES.as_slice() {
         if *first == words.first && fits(*shape, words, place) {
+            let between = if is_first { before } else { "; " };
             write_shape(f, between, *first, *shape)?;
-            between = "; ";
+            is_first = false;
         }
     }
     Ok(())

@@ -93,14 +93,11 @@ pub fn write_bad_byte<W: fmt::Write>(
     line: &[u8],
     after: &str,
 ) -> fmt::Result {
-    let mut column = 1usize;
-    let mut rest = line;
-    while let Some((_, more)) = rest.split_first() {
-        if let Some(what) = bad_byte(rest) {
+    for at in 0..line.len() {
+        if let Some(what) = bad_byte(&line[at..]) {
+            let column = at + 1;
             return write!(f, "column {column} holds {what}{after}");
         }
-        column = column.saturating_add(1);
-        rest = more;
     }
     Ok(())
 }
