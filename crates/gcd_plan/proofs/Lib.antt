@@ -12,6 +12,7 @@ pub mod Spans
 pub mod Valid
 mod Having
 mod NamesApart
+mod Named
 mod Submitted
 mod Broken
 mod Planned

@@ -1,7 +1,8 @@
 -- What is read of a list one element after another, and joined to a list of its own.
-use Rattle.std.proofs.Common.{◌≡◌, ℕ, zero, suc, ◌+◌, ◌<◌, List, [], ◌∷◌, ◌++◌, length, map, take, get_or, Option, Some, None, refl, ap, sym, ◌∙◌, arith}
-use Rattle.std.specs.List.{slice_get}
+use Rattle.std.proofs.Common.{◌≡◌, ℕ, zero, suc, ◌+◌, ◌<◌, nat_lt, Bool, cond, not, List, [], ◌∷◌, ◌++◌, length, map, take, get_or, Option, Some, None, refl, ap, sym, ◌∙◌, arith}
+use Rattle.std.specs.List.{position, position_or_len, slice_get}
 use Rattle.std.specs.Option.{option_map, option_map_or}
+use Rattle.std.proofs.lemmas.List.{length-map}
 use Rattle.std.proofs.lemmas.Option.{none-some, same_Some}
 
 -- an element more of a mapped list
@@ -37,3 +38,16 @@ pub get_or-mapped : {X Y : Type 0} (f : X → Y) (xs : List X) (i : ℕ) (d : Y)
 get_or-mapped f [] i d = refl
 get_or-mapped f (x ∷ xs) zero d = refl
 get_or-mapped f (x ∷ xs) (suc i) d = get_or-mapped f xs i d
+
+-- ## The place of an element
+
+-- how many elements stand before the first that passes
+place_of_mapped : {X Y : Type 0} (p : Y → Bool) (f : X → Y) (xs : List X) → position_or_len p (map f xs) ≡ position_or_len (λ x. p (f x)) xs
+place_of_mapped p f [] = refl
+place_of_mapped p f (x ∷ xs) = ap (λ (n : ℕ). cond (not (p (f x))) (1 + n) 0) (place_of_mapped p f xs)
+
+-- the place of the first element that passes
+pub position_of_mapped : {X Y : Type 0} (p : Y → Bool) (f : X → Y) (xs : List X) → position p (map f xs) ≡ position (λ x. p (f x)) xs
+position_of_mapped p f xs =
+    ap (λ (n : ℕ). cond (nat_lt (position_or_len p (map f xs)) n) (Some (position_or_len p (map f xs))) None) (length-map xs f)
+    ∙ ap (λ (n : ℕ). cond (nat_lt n (length xs)) (Some n) None) (place_of_mapped p f xs)

@@ -5,6 +5,7 @@ pub mod HeldParts
 pub mod Kinds
 pub mod Chains
 pub mod Names
+pub mod Named
 pub mod Effects
 pub mod Made
 pub mod Needs

@@ -1,9 +1,11 @@
 // A valid plan.
-ghost use Rattle.std.specs.Prelude.{◌≡◌, ◌<◌, ◌≤◌, ◌^◌, ◌↔◌, if◌then◌else◌, IfOk, IfSome, IsSome, IsNone, length, map, option_map, slice_get, Some};
+ghost use Rattle.std.specs.Prelude.{◌≡◌, ◌<◌, ◌≤◌, ◌^◌, ◌↔◌, if◌then◌else◌, IfOk, IfSome, IsSome, IsNone, length, map, option_map, position, slice_get, Some};
+ghost use Rattle.std.specs.Str.{bytes_eq};
 ghost use Rattle.gcd_plan.specs.Breaks.{Breaks};
 ghost use Rattle.gcd_plan.specs.Limits.{max_blocks, max_files, max_strips};
+ghost use Rattle.gcd_plan.specs.Named.{block_named, object_named, queue_named};
 ghost use Rattle.gcd_plan.specs.Needs.{limit_room, mark_room, park_room};
-ghost use Rattle.gcd_plan.specs.PlanView.{kind_of, first_target, starts_active, acts_of, work_of, cancel_block, path_of, name_of_obj, name_of_blk, name_of_strip, IsRun, file_view, intake_view, strip_view, view_of};
+ghost use Rattle.gcd_plan.specs.PlanView.{kind_of, first_target, starts_active, acts_of, work_of, cancel_block, path_of, name_of_obj, name_of_blk, name_of_strip, IsRun, blk_view, file_view, intake_view, obj_view, strip_view, view_of};
 ghost use Rattle.gcd_plan.specs.Validity.{IsPlan};
 
 use crate::act::Act;
@@ -11,7 +13,7 @@ use crate::held::Held;
 use crate::kind::Kind;
 use crate::needs::Needs;
 use crate::numbers::{Blk, Obj, Run};
-use crate::parts::{FilePart, Parts, StripPart};
+use crate::parts::{BlkPart, FilePart, ObjPart, Parts, StripPart};
 use crate::parts_fault::PartsFault;
 use crate::validity::fault_of;
 use crate::work::Work;
@@ -294,5 +296,52 @@ impl Plan {
             held: self.held.copied(alloc)?,
             needs: self.needs,
         })
+    }
+}
+
+// The place of the first block of this name.
+fn place_of_block(blocks: &[BlkPart], name: &str) -> Option<usize>
+    ensures { result ≡ position (λ b. bytes_eq (blk_view b).name name.now) blocks.now }
+{
+    blocks.iter().position(|b| b.name.as_str() == name)
+}
+
+// The place of the first object of this name.
+fn place_of_object(objects: &[ObjPart], name: &str) -> Option<usize>
+    ensures { result ≡ position (λ o. bytes_eq (obj_view o).name name.now) objects.now }
+{
+    objects.iter().position(|o| o.name.as_str() == name)
+}
+
+impl Plan {
+    /// The block of this name, `main` among them; None exactly where no block has the name. It compares the name with those of
+    /// the blocks one after the other (this project's own rule).
+    pub fn block_named(&self, name: &str) -> Option<Blk>
+        ensures { result ≡ block_named self.now name.now }
+    {
+        let place = place_of_block(&self.held.parts().blocks, name)?;
+        Some(Blk(place as u32))
+    }
+
+    /// The object of this name, `root` among them; None exactly where no object has the name. It compares the name with those of
+    /// the objects one after the other (this project's own rule).
+    pub fn object_named(&self, name: &str) -> Option<Obj>
+        ensures { result ≡ object_named self.now name.now }
+    {
+        let place = place_of_object(&self.held.parts().objects, name)?;
+        Some(Obj(place as u32))
+    }
+
+    /// The queue of this name, `root` among them; None exactly where no object has the name, or the object that has it is no
+    /// queue (dispatch_queue_create(3)). It looks for it as [`Plan::object_named`] does.
+    pub fn queue_named(&self, name: &str) -> Option<Obj>
+        ensures { result ≡ queue_named self.now name.now }
+    {
+        let object = self.object_named(name)?;
+        if self.kind(object).is_queue() {
+            Some(object)
+        } else {
+            None
+        }
     }
 }
