@@ -117,7 +117,7 @@ impl<'a, R: Net + Files<File = File> + Eprint, P: Poller + Hears> ScriptPoller<'
         }
     }
 
-    // Says at which address connections are accepted, where it is another than the one that was asked for.
+    // Says at which address it accepts connections, if that is another than the call asks for.
     fn tell(&self, addr: &str) {
         if let Ok(heard) = self.feeds.heard_at() {
             if let Ok(text) = format!(in self.alloc; "{heard}") {

@@ -11,8 +11,8 @@
 //! | [`Status`] | the ways to end by name, each with its number ([`Status::code`]) |
 //!
 //! `run` loads a script and reads it as a plan (`gcd_script`), loads its files in their order, lets the poller listen if an address is
-//! given, runs the plan by as many workers as are asked for, up to as many events as are asked for (`gcd_workers`), and makes the text of
-//! the journal, if it is asked for, and the report (`gcd_journal`). `check` loads a script and a journal, of as many events as a run can
+//! given, runs the plan by as many workers and up to as many events as the request says (`gcd_workers`), and makes the text of the journal, if
+//! the request asks for it, and the report (`gcd_journal`). `check` loads a script and a journal, of as many events as a run can
 //! have, and judges it. `big` runs the large script over a file that is made, up to as many events as a run can have. `front` loads a
 //! script, looks whether it has an intake, loads its files, and runs it by four workers beside threads that are no workers
 //! (`Dispatch::run_beside` of `gcd_workers`): each sends its jobs by a mouth of a front (`gcd_front`), which has room for all of them, and
@@ -33,7 +33,7 @@
 //! | `wanting` (`RunBegins`, `IsCheckCount`, `FrontBegins`) | if the answer is `Err`, which loads and listens may have been made |
 //! | `kept` of `tell_large`, `tell_front` | no listen was made, and the poller's count of faults did not fall |
 //!
-//! `Ran` is `RunsPlan` of `gcd_loop` and the end that the state names: a lawful journal, of at most as many events as are asked for, of
+//! `Ran` is `RunsPlan` of `gcd_loop` and the end that the state names: a lawful journal, of at most as many events as the request says, of
 //! these workers alone, honest to poller and clock, and with one worker the choice at each place. `proofs/Pages` shows of every lawful
 //! journal of a valid plan what it keeps of the pages of strips and block objects (`KeepsPages`).
 //!

@@ -52,7 +52,7 @@ fn listen_at<P: Poller>(poller: &mut P, address: Option<&str>) -> Result<(), Sto
     }
 }
 
-// Adds the journal's text, where it is asked for.
+// Adds the journal's text if the call asks for it.
 fn add_journal(
     alloc: Global,
     plan: &Plan,
@@ -70,7 +70,7 @@ fn add_journal(
     write_journal(alloc, plan, journal, text)
 }
 
-// What is told of a run: its journal, where it is asked for, and its report.
+// Makes the text of a run: its journal, if the call asks for it, and its report.
 fn text_of(
     alloc: Global,
     plan: &Plan,
@@ -181,8 +181,8 @@ fn run_script<R: Threads + Wait + Sync, S: Shelf, P: Poller, C: Clock>(
 
 /// Does `run SCRIPT`: loads the script and then each file of its plan, in order, each by one load; listens at the address, if one is
 /// given; and runs the plan by at most `workers` workers, from 1 to 64, up to `most` events. The story has the status of the state to
-/// which the run has come, the run's journal, and as its text the report, after the journal's text if that is asked for. It hands on the
-/// plan and the machine that stands for the journal.
+/// which the run has come, the run's journal, and as its text the report, after the journal's text if the request asks for that. It hands
+/// on the plan and the machine that stands for the journal.
 ///
 /// If a step cannot be taken, no later step is tried, and the story has no journal and this status:
 ///

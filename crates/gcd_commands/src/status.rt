@@ -29,7 +29,7 @@ pub enum Status {
     Full,
     /// The journal is refused: it is none, it is longer than its limit, or an event of it is not permitted.
     JournalRefused,
-    /// The script has no intake, and a run beside senders is asked for.
+    /// The call asks for a run beside senders, and the script has no intake.
     NoIntake,
 }
 

@@ -9,7 +9,7 @@ pub enum Stop {
     Script { line: u32, code: u8 },
     /// The journal is refused at this line, from 1; line 0 is the journal as a whole.
     Journal { line: u32 },
-    /// The script has no intake, and a run beside senders is asked for.
+    /// The call asks for a run beside senders, and the script has no intake.
     NoIntake,
     /// Memory ran out, or the system made no thread for a worker of a long run.
     Memory,
