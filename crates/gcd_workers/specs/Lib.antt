@@ -5,6 +5,7 @@ pub mod ListRuns
 pub mod Met
 pub mod Opened
 pub mod Ran
+pub mod RanValues
 pub mod Silent
 pub mod Teams
 pub mod Works

@@ -29,6 +29,7 @@
 //! |---|---|
 //! | [`team_size`] | how many of so many workers there can be work for, at least 1 |
 //! | [`hands_worth`] | how many hands run fastest what is left of a run over files, at least 1 |
+//! | [`Ran::value`], [`Ran::state`], [`Ran::journal`] | the value of a block, the state, and the events of a run of jobs |
 //! | [`tallies_of`], [`file_jobs`] | a tally for each source, and a job for each block's work, as a board has them, or out of memory |
 //! | [`run_workers`], [`run_alone`] | the journal, the blocks' values, the state and the machine of a run over files (`RunsOverFiles`), or out of memory |
 //! | [`run_jobs`] | the same of a run of the caller's own jobs ([`Ran`], `RunsJobs`), or why there is none: another number of jobs, no number of workers, no event, out of memory |
