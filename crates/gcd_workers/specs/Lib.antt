@@ -1,5 +1,6 @@
 pub mod CalledRuns
 pub mod CallersRuns
+pub mod JobsOf
 pub mod JobsRuns
 pub mod ListRuns
 pub mod Met

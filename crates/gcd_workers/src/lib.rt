@@ -29,6 +29,7 @@
 //! |---|---|
 //! | [`team_size`] | how many of so many workers there can be work for, at least 1 |
 //! | [`hands_worth`] | how many hands run fastest what is left of a run over files, at least 1 |
+//! | [`jobs_of`] | a job for each block, each what a function gives for the block, or out of memory |
 //! | [`Ran::value`], [`Ran::state`], [`Ran::journal`] | the value of a block, the state, and the events of a run of jobs |
 //! | [`tallies_of`], [`file_jobs`] | a tally for each source, and a job for each block's work, as a board has them, or out of memory |
 //! | [`run_workers`], [`run_alone`] | the journal, the blocks' values, the state and the machine of a run over files (`RunsOverFiles`), or out of memory |
@@ -88,6 +89,7 @@
 mod alone;
 mod beside;
 mod beside_callers;
+mod by_block;
 mod called;
 mod callers;
 mod callers_refused;
@@ -117,6 +119,7 @@ mod worth;
 
 pub use alone::run_alone;
 pub use beside::{Side, run_beside};
+pub use by_block::jobs_of;
 pub use called::Called;
 pub use callers::Callers;
 pub use callers_refused::CallersRefused;
