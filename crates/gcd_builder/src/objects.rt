@@ -1,0 +1,194 @@
+// The objects that a builder adds.
+ghost use Rattle.std.specs.Prelude.{◌≡◌, [], false, true, length, IfErr, IfOk, OnOk};
+ghost use Rattle.gcd_plan.specs.declared.kind.Kind.TheVariants.{Group, Semaphore, Timer, Read};
+ghost use Rattle.gcd_builder.specs.Changes.{new_object, root, with_object};
+ghost use Rattle.gcd_builder.specs.Refusals.{MayAddObject, Refuses, with_plan};
+
+use crate::builder::PlanBuilder;
+use crate::fault::BuildFault;
+use gcd_plan::{Kind, Obj};
+
+const ROOT: Obj = Obj(0);
+
+impl<'a> PlanBuilder<'a> {
+    // Adds a queue.
+    #[tactic(auto, using(crate::proofs::Refused::by_rule, crate::proofs::Refused::by_memory, crate::proofs::Steps::object_stays))]
+    fn add_queue(
+        &mut self,
+        name: &'a str,
+        kind: Kind,
+        target: Obj,
+        active: bool,
+    ) -> Result<Obj, BuildFault<'a>>
+        ensures added { OnOk result (self.new ≡ with_plan (with_object (new_object name.now kind target active []) self.old.plan)) }
+        ensures number { IfOk result (λ o. o.0 ≡ length self.old.plan.objects) }
+        ensures fits { OnOk result (MayAddObject self.old.plan (new_object name.now kind target active [])) }
+        ensures refused { IfErr result (Refuses self.old self.new) }
+    {
+        if self.spent {
+            return Err(BuildFault::Memory);
+        }
+        self.draft.check_queue(name, kind, target, active)?;
+        self.spent = true;
+        let queue = self
+            .draft
+            .add_object(self.alloc, name, kind, target, active, "")?;
+        self.spent = false;
+        Ok(queue)
+    }
+
+    /// Adds an active queue on `root` of this kind, serial or concurrent (dispatch_queue_create(3)).
+    pub fn queue(&mut self, name: &'a str, kind: Kind) -> Result<Obj, BuildFault<'a>>
+        ensures added { OnOk result (self.new ≡ with_plan (with_object (new_object name.now kind root true []) self.old.plan)) }
+        ensures number { IfOk result (λ o. o.0 ≡ length self.old.plan.objects) }
+        ensures fits { OnOk result (MayAddObject self.old.plan (new_object name.now kind root true [])) }
+        ensures refused { IfErr result (Refuses self.old self.new) }
+    {
+        self.add_queue(name, kind, ROOT, true)
+    }
+
+    /// Adds an active queue on this target queue (dispatch_queue_create(3)).
+    pub fn queue_on(
+        &mut self,
+        name: &'a str,
+        kind: Kind,
+        target: Obj,
+    ) -> Result<Obj, BuildFault<'a>>
+        ensures added { OnOk result (self.new ≡ with_plan (with_object (new_object name.now kind target true []) self.old.plan)) }
+        ensures number { IfOk result (λ o. o.0 ≡ length self.old.plan.objects) }
+        ensures fits { OnOk result (MayAddObject self.old.plan (new_object name.now kind target true [])) }
+        ensures refused { IfErr result (Refuses self.old self.new) }
+    {
+        self.add_queue(name, kind, target, true)
+    }
+
+    /// Adds a queue on this target queue that runs nothing before it is activated (dispatch_activate(3)).
+    pub fn inactive_queue(
+        &mut self,
+        name: &'a str,
+        kind: Kind,
+        target: Obj,
+    ) -> Result<Obj, BuildFault<'a>>
+        ensures added { OnOk result (self.new ≡ with_plan (with_object (new_object name.now kind target false []) self.old.plan)) }
+        ensures number { IfOk result (λ o. o.0 ≡ length self.old.plan.objects) }
+        ensures fits { OnOk result (MayAddObject self.old.plan (new_object name.now kind target false [])) }
+        ensures refused { IfErr result (Refuses self.old self.new) }
+    {
+        self.add_queue(name, kind, target, false)
+    }
+
+    /// Adds a group (dispatch_group_create(3)).
+    #[tactic(auto, using(crate::proofs::Refused::by_rule, crate::proofs::Refused::by_memory, crate::proofs::Steps::object_stays))]
+    pub fn group(&mut self, name: &'a str) -> Result<Obj, BuildFault<'a>>
+        ensures added { OnOk result (self.new ≡ with_plan (with_object (new_object name.now Group root true []) self.old.plan)) }
+        ensures number { IfOk result (λ o. o.0 ≡ length self.old.plan.objects) }
+        ensures fits { OnOk result (MayAddObject self.old.plan (new_object name.now Group root true [])) }
+        ensures refused { IfErr result (Refuses self.old self.new) }
+    {
+        if self.spent {
+            return Err(BuildFault::Memory);
+        }
+        self.draft.check_group(name)?;
+        self.spent = true;
+        let group = self
+            .draft
+            .add_object(self.alloc, name, Kind::Group, ROOT, true, "")?;
+        self.spent = false;
+        Ok(group)
+    }
+
+    /// Adds a semaphore with this first value, at most [`gcd_plan::MAX_VALUE`] (dispatch_semaphore_create(3)).
+    #[tactic(auto, using(crate::proofs::Refused::by_rule, crate::proofs::Refused::by_memory, crate::proofs::Steps::object_stays))]
+    pub fn semaphore(&mut self, name: &'a str, first: u32) -> Result<Obj, BuildFault<'a>>
+        ensures added { OnOk result (self.new ≡ with_plan (with_object (new_object name.now (Semaphore first) root true []) self.old.plan)) }
+        ensures number { IfOk result (λ o. o.0 ≡ length self.old.plan.objects) }
+        ensures fits { OnOk result (MayAddObject self.old.plan (new_object name.now (Semaphore first) root true [])) }
+        ensures refused { IfErr result (Refuses self.old self.new) }
+    {
+        if self.spent {
+            return Err(BuildFault::Memory);
+        }
+        self.draft.check_semaphore(name, first)?;
+        let kind = Kind::Semaphore(first);
+        self.spent = true;
+        let semaphore = self
+            .draft
+            .add_object(self.alloc, name, kind, ROOT, true, "")?;
+        self.spent = false;
+        Ok(semaphore)
+    }
+
+    /// Adds an inactive source of merged values of this kind, add, or or replace, on this target queue
+    /// (dispatch_source_create(3)).
+    #[tactic(auto, using(crate::proofs::Refused::by_rule, crate::proofs::Refused::by_memory, crate::proofs::Steps::object_stays))]
+    pub fn source(&mut self, name: &'a str, kind: Kind, target: Obj) -> Result<Obj, BuildFault<'a>>
+        ensures added { OnOk result (self.new ≡ with_plan (with_object (new_object name.now kind target false []) self.old.plan)) }
+        ensures number { IfOk result (λ o. o.0 ≡ length self.old.plan.objects) }
+        ensures fits { OnOk result (MayAddObject self.old.plan (new_object name.now kind target false [])) }
+        ensures refused { IfErr result (Refuses self.old self.new) }
+    {
+        if self.spent {
+            return Err(BuildFault::Memory);
+        }
+        self.draft.check_source(name, kind, target)?;
+        self.spent = true;
+        let source = self
+            .draft
+            .add_object(self.alloc, name, kind, target, false, "")?;
+        self.spent = false;
+        Ok(source)
+    }
+
+    /// Adds an inactive timer on this target queue. Its first due time and its interval are milliseconds, from 1 to
+    /// [`gcd_plan::MAX_TIME`] (dispatch_source_set_timer(3)).
+    #[tactic(auto, using(crate::proofs::Refused::by_rule, crate::proofs::Refused::by_memory, crate::proofs::Steps::object_stays))]
+    pub fn timer(
+        &mut self,
+        name: &'a str,
+        start: u32,
+        every: u32,
+        target: Obj,
+    ) -> Result<Obj, BuildFault<'a>>
+        ensures added { OnOk result (self.new ≡ with_plan (with_object (new_object name.now (Timer start every) target false []) self.old.plan)) }
+        ensures number { IfOk result (λ o. o.0 ≡ length self.old.plan.objects) }
+        ensures fits { OnOk result (MayAddObject self.old.plan (new_object name.now (Timer start every) target false [])) }
+        ensures refused { IfErr result (Refuses self.old self.new) }
+    {
+        if self.spent {
+            return Err(BuildFault::Memory);
+        }
+        self.draft.check_timer(name, start, every, target)?;
+        let kind = Kind::Timer { start, every };
+        self.spent = true;
+        let timer = self
+            .draft
+            .add_object(self.alloc, name, kind, target, false, "")?;
+        self.spent = false;
+        Ok(timer)
+    }
+
+    /// Adds an inactive source that reads the feed of this path, on this target queue (dispatch_source_create(3)).
+    #[tactic(auto, using(crate::proofs::Refused::by_rule, crate::proofs::Refused::by_memory, crate::proofs::Steps::object_stays))]
+    pub fn read_source(
+        &mut self,
+        name: &'a str,
+        path: &'a str,
+        target: Obj,
+    ) -> Result<Obj, BuildFault<'a>>
+        ensures added { OnOk result (self.new ≡ with_plan (with_object (new_object name.now Read target false path.now) self.old.plan)) }
+        ensures number { IfOk result (λ o. o.0 ≡ length self.old.plan.objects) }
+        ensures fits { OnOk result (MayAddObject self.old.plan (new_object name.now Read target false path.now)) }
+        ensures refused { IfErr result (Refuses self.old self.new) }
+    {
+        if self.spent {
+            return Err(BuildFault::Memory);
+        }
+        self.draft.check_read(name, path, target)?;
+        self.spent = true;
+        let source = self
+            .draft
+            .add_object(self.alloc, name, Kind::Read, target, false, path)?;
+        self.spent = false;
+        Ok(source)
+    }
+}
