@@ -39,7 +39,7 @@ module _ {S : Type 0} where
   -- ## What `put` has placed
 
   pub put_barred : (e : Event) (v w : View S) (at : ℕ) (y : Why) → Says e v w (Barred at y) → HasPlacedNone v w
-  put_barred e v w at y says = says.0.ahead.own
+  put_barred e v w at y says = says.0.sees.ahead.own
 
   -- ## One after the other
 
@@ -86,11 +86,11 @@ module _ {S : Type 0} where
 
   pub leaves_barred : (e : Event) (v w : View S) (at : ℕ) (y : Why) → Says e v w (Barred at y) → SaysRecorded e Left v w
   unfolding SaysRecorded
-  leaves_barred e v w at y says = says.0.ahead.own
+  leaves_barred e v w at y says = says.0.sees.ahead.own
 
   pub waits_barred : (e : Event) (v w : View S) (at : ℕ) (y : Why) → Says e v w (Barred at y) → SaysRecorded e Waited v w
   unfolding SaysRecorded
-  waits_barred e v w at y says = (says.0.ahead.own, (y, subst (λ (x : View S). Rattle.gcd_history.specs.History.why x.terms.plan w.seen e ≡ Some y) (Rattle.std.proofs.Common.sym says.0.is) says.3))
+  waits_barred e v w at y says = (says.0.sees.ahead.own, (y, subst (λ (x : View S). Rattle.gcd_history.specs.History.why x.terms.plan w.seen e ≡ Some y) (Rattle.std.proofs.Common.sym says.0.sees.is) says.3))
 
   pub stops : (e : Event) (v w : View S) → HasPlacedNone v w → SaysRecorded e Stopped v w
   unfolding SaysRecorded

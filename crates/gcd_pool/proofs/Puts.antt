@@ -15,7 +15,7 @@ use Rattle.gcd_row.specs.Lying.{slot_of, HasSlots, GivesBack}
 use Rattle.gcd_row.specs.Jobs.{held_jobs}
 use Rattle.gcd_row.specs.Views.{held_run, knowing, known, noting}
 use Rattle.gcd_row.specs.Plays.{Turned}
-use Rattle.gcd_row.specs.Passes.{IsPassOf, Ahead, IsPlaced, Looks, Says, SaysSlots, slots, view}
+use Rattle.gcd_row.specs.Passes.{IsPassOf, Ahead, IsPlaced, Sees, Says, SaysSlots, slots, view}
 use Rattle.gcd_row.specs.declared.board.RowBoard.{RowBoard}
 use Rattle.gcd_row.specs.declared.pass.RowPass.{RowPass}
 use Rattle.gcd_machine.specs.declared.put.Put.{Put}
@@ -59,11 +59,11 @@ module _ {S : Type 0} where
     more = more;
   }
 
-  pub looks_is : (v w : View S) → Looks v w → w ≡ knowing v w.seen w.marks
-  looks_is v w l = knows_marks v w (known v w) l.is
+  pub sees_is : (v w : View S) → Sees v w → w ≡ knowing v w.seen w.marks
+  sees_is v w l = knows_marks v w (known v w) l.is
 
-  pub looks_goes_on : (v w : View S) → Looks v w → GoesOn v w
-  looks_goes_on v w l = knowing_goes_on v w (looks_is v w l) l.ahead.more
+  pub sees_goes_on : (v w : View S) → Sees v w → GoesOn v w
+  sees_goes_on v w l = knowing_goes_on v w (sees_is v w l) l.ahead.more
 
   -- it knows something else of the passed words, and nothing more
   pub passing_goes_on : (v w : View S) → w ≡ knowing v v.seen w.marks → GoesOn v w
@@ -82,8 +82,8 @@ module _ {S : Type 0} where
             ∙ ap (λ (k : PassMarks). noting (knowing v w.seen k) w.first w.handed) (sym (ap (λ (x : View S). x.marks) p.is));
         more = subst (λ (l : List Event). StartsWith l v.seen) (sym seen) (starts_trans (p.history ++ e ∷ []) p.history v.seen (starts_more p.history e) p.ahead.more);
       }
-  says_goes_on e v w (Barred at y) p = looks_goes_on v w p.0
-  says_goes_on e v w (Held by passed) p = looks_goes_on v w p.0.looks
+  says_goes_on e v w (Barred at y) p = sees_goes_on v w p.0.sees
+  says_goes_on e v w (Held by passed) p = sees_goes_on v w p.0.sees
   says_goes_on e v w Full p = knowing_goes_on v w (knows_marks v w (known v w) p.0) p.1.more
 
 module _ {S : Type 0} (shape : S → Shape) (gives : S → ℕ → Type 0) (b : RowBoard S) where
@@ -103,8 +103,8 @@ module _ {S : Type 0} (shape : S → Shape) (gives : S → ℕ → Type 0) (b : 
       (subst (IsFreshAt shape v.terms.plan (view q).seen v.worker) (sym slots_same)
       (fresh_ahead shape v.terms.plan v.seen (view q).seen v.worker (slots p) (lawful_as v q is go) ahead.more ahead.own fresh))
 
-  pub looks_fresh : (p q : RowPass S) → IsPassOf shape gives b q → Looks (view p) (view q) → slots q ≡ slots p → IsFresh shape (view p) (slots p) → IsFresh shape (view q) (slots q)
-  looks_fresh p q is l same fresh = ahead_fresh p q is (looks_goes_on (view p) (view q) l) l.ahead same fresh
+  pub sees_fresh : (p q : RowPass S) → IsPassOf shape gives b q → Sees (view p) (view q) → slots q ≡ slots p → IsFresh shape (view p) (slots p) → IsFresh shape (view q) (slots q)
+  sees_fresh p q is l same fresh = ahead_fresh p q is (sees_goes_on (view p) (view q) l) l.ahead same fresh
 
   placed_fresh : (p q : RowPass S) (e : Event) (n : ℕ) → IsPassOf shape gives b q → worker_of e ≡ (view p).worker
       → (s : IsPlaced e (view p) (view q) n) → (job : ℕ → Option S) → Turned shape gives (record { plan = (view p).terms.plan; job = job }) s.history e (slots p) (slots q) → IsFresh shape (view p) (slots p) → IsFresh shape (view q) (slots q)
@@ -133,8 +133,8 @@ module _ {S : Type 0} (shape : S → Shape) (gives : S → ℕ → Type 0) (b : 
       subst (λ (l : List Event). Turned shape gives (record { plan = v.terms.plan; job = job }) l e (slots p) (slots q)) one
       (subst (λ (x : View S). Turned shape gives (record { plan = x.terms.plan; job = job }) t.0 e (slots p) (slots q)) go.is t.2) in
       placed_fresh p q e n is mine s job turned fresh
-  says_fresh p q e (Barred at y) is mine s t fresh = looks_fresh p q is s.0 t fresh
-  says_fresh p q e (Held by passed) is mine s t fresh = looks_fresh p q is s.0.looks t fresh
+  says_fresh p q e (Barred at y) is mine s t fresh = sees_fresh p q is s.0.sees t fresh
+  says_fresh p q e (Held by passed) is mine s t fresh = sees_fresh p q is s.0.sees t fresh
   says_fresh p q e Full is mine s t fresh = ahead_fresh p q is (says_goes_on e (view p) (view q) Full s) s.1 t fresh
 
   -- ## The cell that is ready

@@ -20,7 +20,7 @@ use Rattle.gcd_loop.specs.declared.recorder.Step.TheVariants.{Placed as StepPlac
 use Rattle.gcd_loop.proofs.Steps.{grown}
 use Rattle.gcd_row.specs.Shapes.{Shape}
 use Rattle.gcd_row.specs.Views.{knowing, seeing}
-use Rattle.gcd_row.specs.Passes.{Ahead, IsPassOf, Looks, slots, view, machine_of}
+use Rattle.gcd_row.specs.Passes.{Ahead, IsPassOf, Sees, slots, view, machine_of}
 use Rattle.gcd_row.specs.declared.pass.RowPass.{RowPass}
 use Rattle.gcd_row.specs.declared.board.RowBoard.{RowBoard}
 use Rattle.gcd_machine.specs.declared.put.Put.{Put}
@@ -41,9 +41,9 @@ use Rattle.gcd_pool.specs.declared.hand.Hand.{Hand}
 use Rattle.gcd_pool.specs.declared.hand.Pool.{Pool}
 use Rattle.gcd_row.proofs.Fronts.{starts_trans}
 use Rattle.gcd_history.specs.Team.{of_worker}
-use Rattle.gcd_pool.proofs.Puts.{looks_fresh, placed_seen}
+use Rattle.gcd_pool.proofs.Puts.{sees_fresh, placed_seen}
 use Rattle.gcd_pool.proofs.Told.{to_lead}
-use Rattle.gcd_pool.proofs.Serves.{looks_serves, most_of_hand, passing_fresh, serves_further, serves_nothing}
+use Rattle.gcd_pool.proofs.Serves.{sees_serves, most_of_hand, passing_fresh, serves_further, serves_nothing}
 use Rattle.gcd_pool.proofs.Throughs.{barred_hands, full_hands, placed_hands}
 use Rattle.gcd_pool.proofs.Works.{ahead_adds, still_all}
 
@@ -110,7 +110,7 @@ module _ {S : Type 0} (shape : S → Shape) (gives : S → ℕ → Type 0) (b : 
   barred_said : (at : ℕ) (y : Why) → WasPut shape gives b e p q (Barred at y) → (view p).worker ≡ 0
       → Says (view p).terms.limits.most (view p).terms.plan e (view p).seen (view q).seen (Barred at y)
   barred_said at y w head = (
-    put_grows w.last (view q).seen w.waited head w.says.0.ahead,
+    put_grows w.last (view q).seen w.waited head w.says.0.sees.ahead,
     w.says.1,
     subst (λ (t : Terms S). why t.plan (view q).seen e ≡ Some y) (waited_terms w.last w.waited) w.says.3,
   )
@@ -177,9 +177,9 @@ module _ {S : Type 0} (shape : S → Shape) (gives : S → ℕ → Type 0) (pool
     head = ap (λ (x : View S). x.worker) serving.view.is ∙ is.head;
   }
 
-  pub looked : (q : RowPass S) → IsPassOf shape gives pool.board.now q → Looks (view a.pass) (view q) → slots q ≡ slots a.pass → IsHead shape gives pool (record { pass = q; bench = a.bench; journal = a.journal })
+  pub looked : (q : RowPass S) → IsPassOf shape gives pool.board.now q → Sees (view a.pass) (view q) → slots q ≡ slots a.pass → IsHead shape gives pool (record { pass = q; bench = a.bench; journal = a.journal })
   looked q pass looks same =
-      still_head (record { pass = q; bench = a.bench; journal = a.journal }) (looks_serves shape gives pool a q is.ready.of pass looks) (looks_fresh shape gives pool.board.now a.pass q pass looks same is.ready.fresh)
+      still_head (record { pass = q; bench = a.bench; journal = a.journal }) (sees_serves shape gives pool a q is.ready.of pass looks) (sees_fresh shape gives pool.board.now a.pass q pass looks same is.ready.fresh)
 
   -- it has gathered, and seen no more
   pub passed_head : (b : Hand S) → Serving shape gives pool a b → view b.pass ≡ knowing (view a.pass) (view a.pass).seen (view b.pass).marks → slots b.pass ≡ slots a.pass → IsHead shape gives pool b

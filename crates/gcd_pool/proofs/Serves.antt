@@ -5,7 +5,7 @@ use Rattle.gcd_event.specs.declared.event.Event.{Event}
 use Rattle.gcd_history.specs.Ends.{HasEnded}
 use Rattle.gcd_machine.specs.Stands.{StandsFor}
 use Rattle.gcd_row.specs.Shapes.{Shape}
-use Rattle.gcd_row.specs.Passes.{IsPassOf, Looks, slots, terms_of, view, machine_of}
+use Rattle.gcd_row.specs.Passes.{IsPassOf, Sees, slots, terms_of, view, machine_of}
 use Rattle.gcd_row.specs.Views.{held_run, knowing}
 use Rattle.gcd_row.specs.declared.pass.RowPass.{RowPass}
 use Rattle.gcd_row.specs.declared.view.Terms.{Terms}
@@ -21,7 +21,7 @@ use Rattle.gcd_pool.specs.declared.duty.Exit.{Exit}
 use Rattle.gcd_pool.specs.Hands.{GoesOn, IsFresh, IsFreshAt, IsGatheredBy, IsHandOf, IsPool, IsReady, IsSamePool, Served, Serving}
 use Rattle.gcd_pool.specs.declared.hand.Hand.{Hand}
 use Rattle.gcd_pool.specs.declared.hand.Pool.{Pool}
-use Rattle.gcd_pool.proofs.Puts.{goes_further, goes_nowhere, looks_fresh, looks_goes_on}
+use Rattle.gcd_pool.proofs.Puts.{goes_further, goes_nowhere, sees_fresh, sees_goes_on}
 
 module _ {S : Type 0} (shape : S → Shape) (gives : S → ℕ → Type 0) (pool : Pool S) where
   -- the passed word is the same, so the journal is what it has seen up to there still
@@ -73,17 +73,17 @@ module _ {S : Type 0} (shape : S → Shape) (gives : S → ℕ → Type 0) (pool
 
   -- ## Looking
 
-  looks_passed : (v w : View S) → Looks v w → w.marks.passed ≡ v.marks.passed
-  looks_passed v w looks = ap (λ (x : View S). x.marks.passed) looks.is
+  sees_passed : (v w : View S) → Sees v w → w.marks.passed ≡ v.marks.passed
+  sees_passed v w looks = ap (λ (x : View S). x.marks.passed) looks.is
 
   -- a hand that has looked at the row
-  pub looks_serves : (a : Hand S) (q : RowPass S) → IsHandOf shape gives pool a → IsPassOf shape gives pool.board.now q → Looks (view a.pass) (view q) → Serving shape gives pool a (record { pass = q; bench = a.bench; journal = a.journal })
-  looks_serves a q of pass looks = serves_pass a q of pass (looks_goes_on (view a.pass) (view q) looks) (looks_passed (view a.pass) (view q) looks)
+  pub sees_serves : (a : Hand S) (q : RowPass S) → IsHandOf shape gives pool a → IsPassOf shape gives pool.board.now q → Sees (view a.pass) (view q) → Serving shape gives pool a (record { pass = q; bench = a.bench; journal = a.journal })
+  sees_serves a q of pass looks = serves_pass a q of pass (sees_goes_on (view a.pass) (view q) looks) (sees_passed (view a.pass) (view q) looks)
 
-  pub looks_ready : (a : Hand S) (q : RowPass S) → IsReady shape gives pool a → IsPassOf shape gives pool.board.now q → Looks (view a.pass) (view q) → slots q ≡ slots a.pass → IsReady shape gives pool (record { pass = q; bench = a.bench; journal = a.journal })
-  looks_ready a q is pass looks same = record {
-    of = (looks_serves a q is.of pass looks).of;
-    fresh = looks_fresh shape gives pool.board.now a.pass q pass looks same is.fresh;
+  pub sees_ready : (a : Hand S) (q : RowPass S) → IsReady shape gives pool a → IsPassOf shape gives pool.board.now q → Sees (view a.pass) (view q) → slots q ≡ slots a.pass → IsReady shape gives pool (record { pass = q; bench = a.bench; journal = a.journal })
+  sees_ready a q is pass looks same = record {
+    of = (sees_serves a q is.of pass looks).of;
+    fresh = sees_fresh shape gives pool.board.now a.pass q pass looks same is.fresh;
   }
 
   -- ## Letting others write over what was seen

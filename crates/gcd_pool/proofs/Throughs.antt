@@ -10,7 +10,7 @@ use Rattle.gcd_history.specs.Team.{of_worker}
 use Rattle.gcd_row.specs.Shapes.{Shape}
 use Rattle.gcd_row.specs.Lying.{GivesBack}
 use Rattle.gcd_row.specs.Views.{knowing}
-use Rattle.gcd_row.specs.Passes.{IsPassOf, Looks, Says, SaysSlots, slots, view}
+use Rattle.gcd_row.specs.Passes.{IsPassOf, Sees, Says, SaysSlots, slots, view}
 use Rattle.gcd_row.specs.declared.board.RowBoard.{RowBoard}
 use Rattle.gcd_row.specs.declared.pass.RowPass.{RowPass}
 use Rattle.gcd_machine.specs.declared.put.Put.{Put}
@@ -26,7 +26,7 @@ use Rattle.gcd_pool.specs.Works.{AddsNone, AddsOnly, AddsWork}
 use Rattle.gcd_pool.specs.declared.turn.Turn.{Turn}
 use Rattle.gcd_pool.specs.declared.turn.Turn.TheVariants.{Left, Waited, Placed as TurnPlaced, Ended, Stopped as TurnStopped}
 use Rattle.gcd_pool.proofs.Placing.{leaves_barred, leaves_full, one_further, put_barred, quiet_further, recorded_further, records, records_end, stops, waits_barred}
-use Rattle.gcd_pool.proofs.Puts.{ahead_fresh, gives_ahead, goes_further, knowing_goes_on, looks_is, passing_goes_on, says_fresh, says_goes_on, settled_ahead, settled_placed}
+use Rattle.gcd_pool.proofs.Puts.{ahead_fresh, gives_ahead, goes_further, knowing_goes_on, sees_is, passing_goes_on, says_fresh, says_goes_on, settled_ahead, settled_placed}
 use Rattle.gcd_pool.proofs.Works.{adds_further, ahead_adds, ahead_adds_none, none_only, none_then, says_adds, says_only}
 
 -- ## It has waited
@@ -35,8 +35,8 @@ module _ {S : Type 0} where
   pub waits_nowhere : (p : RowPass S) → HasWaited p p
   waits_nowhere p = record { is = refl; ahead = record { more = starts_refl (view p).seen; own = refl }; same = refl }
 
-  pub looks_waits : (p q : RowPass S) → Looks (view p) (view q) → slots q ≡ slots p → HasWaited p q
-  looks_waits p q looks same = record { is = looks_is (view p) (view q) looks; ahead = looks.ahead; same = same }
+  pub sees_waits : (p q : RowPass S) → Sees (view p) (view q) → slots q ≡ slots p → HasWaited p q
+  sees_waits p q looks same = record { is = sees_is (view p) (view q) looks; ahead = looks.ahead; same = same }
 
   -- it knows something else of the passed words, and nothing more
   pub passing_waits : (p q : RowPass S) → view q ≡ knowing (view p) (view p).seen (view q).marks → slots q ≡ slots p → HasWaited p q
@@ -113,7 +113,7 @@ module _ {S : Type 0} (shape : S → Shape) (gives : S → ℕ → Type 0) (b : 
   pub held_waits : (e : Event) (p q : RowPass S) (by passed : ℕ) → SaysThrough shape gives b e p q (Held by passed) → HasWaited p q
   held_waits e p q by passed x =
       let put = x.put in
-      let looked = looks_waits put.last x.held put.says.0.looks put.slots_say in
+      let looked = sees_waits put.last x.held put.says.0.sees put.slots_say in
       waits_further p x.held q (waits_further p put.last x.held put.waited looked) x.since
 
   -- ## What it is then
@@ -209,7 +209,7 @@ module _ {S : Type 0} (shape : S → Shape) (gives : S → ℕ → Type 0) (b : 
       subst (λ (h : Handed S). HandsOn (accepted e) h (view q).handed) (ap (λ (y : View S). y.handed) x.waited.is) x.says.handed
 
   pub barred_hands : (e : Event) (p q : RowPass S) (at : ℕ) (y : Why) → SaysThrough shape gives b e p q (Barred at y) → (view q).handed ≡ (view p).handed
-  barred_hands e p q at y x = ap (λ (z : View S). z.handed) x.says.0.is ∙ ap (λ (z : View S). z.handed) x.waited.is
+  barred_hands e p q at y x = ap (λ (z : View S). z.handed) x.says.0.sees.is ∙ ap (λ (z : View S). z.handed) x.waited.is
 
   pub full_hands : (e : Event) (p q : RowPass S) → SaysThrough shape gives b e p q Full → ((view q).handed ≡ (view p).handed) × (length (view q).seen ≡ (view p).terms.limits.most)
   full_hands e p q x = (ap (λ (y : View S). y.handed) x.says.0 ∙ ap (λ (y : View S). y.handed) x.waited.is, x.says.2 ∙ ap (λ (y : View S). y.terms.limits.most) x.waited.is)
@@ -218,7 +218,7 @@ module _ {S : Type 0} (shape : S → Shape) (gives : S → ℕ → Type 0) (b : 
 
   pub outcome_settled : (e : Event) (p q : RowPass S) (at : ℕ) (y : Why) → IsPassOf shape gives b q → SaysThrough shape gives b e p q (Barred at y) → IsSettled shape (view p) e (slots p) → IsSettled shape (view q) e (slots q)
   outcome_settled e p q at y is x settled =
-      waited_settled x.last q e is (looks_waits x.last q x.says.0 x.slots_say) (waited_settled p x.last e x.of x.waited settled)
+      waited_settled x.last q e is (sees_waits x.last q x.says.0.sees x.slots_say) (waited_settled p x.last e x.of x.waited settled)
 
   pub outcome_ended : (e : Event) (p q : RowPass S) (n : ℕ) → worker_of e ≡ (view p).worker → SaysThrough shape gives b e p q (Placed n) → IsSettled shape (view p) e (slots p) → IsFresh shape (view q) (slots q)
   outcome_ended e p q n mine x settled =
@@ -226,4 +226,4 @@ module _ {S : Type 0} (shape : S → Shape) (gives : S → ℕ → Type 0) (b : 
 
   pub barred_adds_none : (e : Event) (p q : RowPass S) (at : ℕ) (y : Why) → SaysThrough shape gives b e p q (Barred at y) → AddsNone (view p) (view q)
   barred_adds_none e p q at y x =
-      waited_none p q (waits_further p x.last q x.waited (looks_waits x.last q x.says.0 x.slots_say))
+      waited_none p q (waits_further p x.last q x.waited (sees_waits x.last q x.says.0.sees x.slots_say))

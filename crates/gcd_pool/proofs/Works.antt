@@ -14,7 +14,7 @@ use Rattle.gcd_history.specs.Held.{is_of}
 use Rattle.gcd_history.specs.Team.{of_worker, StartsWith}
 use Rattle.gcd_history.proofs.HeldRuns.OwnEvents.{none_of_worker}
 use Rattle.gcd_row.specs.Views.{seeing}
-use Rattle.gcd_row.specs.Passes.{Ahead, Looks, Says}
+use Rattle.gcd_row.specs.Passes.{Ahead, Sees, Says}
 use Rattle.gcd_machine.specs.declared.put.Put.{Put}
 use Rattle.gcd_machine.specs.declared.put.Put.TheVariants.{Placed, Barred, Held, Full}
 use Rattle.gcd_row.specs.declared.view.View.{View}
@@ -59,8 +59,8 @@ module _ {S : Type 0} where
     handed = handed;
   }
 
-  pub looks_adds : (v w : View S) → Looks v w → AddsWork v w
-  looks_adds v w l = ahead_adds v w (ap (λ (x : View S). x.worker) l.is) (ap (λ (x : View S). x.handed) l.is) l.ahead
+  pub sees_adds : (v w : View S) → Sees v w → AddsWork v w
+  sees_adds v w l = ahead_adds v w (ap (λ (x : View S). x.worker) l.is) (ap (λ (x : View S). x.handed) l.is) l.ahead
 
   pub says_adds : (e : Event) (v w : View S) (r : Put) → is_work e ≡ true → Says e v w r → AddsWork v w
   says_adds e v w (Placed n) work p =
@@ -73,8 +73,8 @@ module _ {S : Type 0} where
             (and_from (not (is_of v.worker e) || is_work e) true (ap (λ (b : Bool). not (is_of v.worker e) || b) work ∙ or-true (not (is_of v.worker e))) refl);
         handed = handed_by (accepted e) v.handed w.handed (work_accepts_none e work) p.handed;
       }
-  says_adds e v w (Barred at y) work p = looks_adds v w p.0
-  says_adds e v w (Held by passed) work p = looks_adds v w p.0.looks
+  says_adds e v w (Barred at y) work p = sees_adds v w p.0.sees
+  says_adds e v w (Held by passed) work p = sees_adds v w p.0.sees
   says_adds e v w Full work p = ahead_adds v w (ap (λ (x : View S). x.worker) p.0) (ap (λ (x : View S). x.handed) p.0) p.1
 
 pub ended_is_work : (e : Event) (r : Run) → ended e ≡ Some r → is_work e ≡ true
@@ -110,8 +110,8 @@ module _ {S : Type 0} where
   pub ahead_adds_none : (v w : View S) → Ahead v w.seen → AddsNone v w
   ahead_adds_none v w a = record { none = λ all. ahead_none v w.seen a all }
 
-  pub looks_none : (v w : View S) → Looks v w → AddsNone v w
-  looks_none v w l = ahead_adds_none v w l.ahead
+  pub sees_none : (v w : View S) → Sees v w → AddsNone v w
+  sees_none v w l = ahead_adds_none v w l.ahead
 
   pub none_only : (e : Event) (v w : View S) → AddsNone v w → AddsOnly e v w
   none_only e v w a = record { only = λ all. inl (a.none all) }
@@ -123,8 +123,8 @@ module _ {S : Type 0} where
         let parts = all_front (is_of v.worker) p.history (e ∷ []) (sym (ap (list_all (is_of v.worker)) is) ∙ all) in
         inr (is ∙ ap (λ (l : List Event). l ++ e ∷ []) (ahead_none v p.history p.ahead parts.0));
   }
-  says_only e v w (Barred at y) p = none_only e v w (looks_none v w p.0)
-  says_only e v w (Held by passed) p = none_only e v w (looks_none v w p.0.looks)
+  says_only e v w (Barred at y) p = none_only e v w (sees_none v w p.0.sees)
+  says_only e v w (Held by passed) p = none_only e v w (sees_none v w p.0.sees)
   says_only e v w Full p = none_only e v w (ahead_adds_none v w p.1)
 
   -- what is seen later has what was seen before

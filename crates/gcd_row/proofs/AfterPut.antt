@@ -55,8 +55,8 @@ ready_at_end shape plan h w b x v is = subst (λ (n : Bool). IsReadyBody shape n
 -- what an answer says leaves the numbers as they were
 pub same_numbers : {S : Type 0} (e : Event) (v w : View S) (r : Put) → Says e v w r → HasSameNumbers v w
 same_numbers {S} e v w (Placed n) says = record { worker = ap (λ (x : View S). x.worker) says.is; hands = ap (λ (x : View S). x.hands) says.is; passed = ap (λ (x : View S). x.marks.passed) says.is }
-same_numbers {S} e v w (Barred at y) says = record { worker = ap (λ (x : View S). x.worker) says.0.is; hands = ap (λ (x : View S). x.hands) says.0.is; passed = ap (λ (x : View S). x.marks.passed) says.0.is }
-same_numbers {S} e v w (Held by passed) says = record { worker = ap (λ (x : View S). x.worker) says.0.looks.is; hands = ap (λ (x : View S). x.hands) says.0.looks.is; passed = ap (λ (x : View S). x.marks.passed) says.0.looks.is }
+same_numbers {S} e v w (Barred at y) says = record { worker = ap (λ (x : View S). x.worker) says.0.sees.is; hands = ap (λ (x : View S). x.hands) says.0.sees.is; passed = ap (λ (x : View S). x.marks.passed) says.0.sees.is }
+same_numbers {S} e v w (Held by passed) says = record { worker = ap (λ (x : View S). x.worker) says.0.sees.is; hands = ap (λ (x : View S). x.hands) says.0.sees.is; passed = ap (λ (x : View S). x.marks.passed) says.0.sees.is }
 same_numbers {S} e v w Full says = record { worker = ap (λ (x : View S). x.worker) says.0; hands = ap (λ (x : View S). x.hands) says.0; passed = ap (λ (x : View S). x.marks.passed) says.0 }
 
 -- and with every other answer worker 0 has handed in what it had
@@ -123,8 +123,8 @@ module _ {S : Type 0} (shape : S → Shape) (gives : S → ℕ → Type 0) (b : 
 
   pub kept : (p q : RowPass S) (e : Event) (r : Put) → taken e ≡ None → given (view p).terms.plan e ≡ None → Says e (view p) (view q) r → SaysSlots shape gives e (slots p) (slots q) (view q) r → Kept p q
   kept p q e (Placed n) none nothing says says_slots = kept_placed p q e n none nothing says says_slots
-  kept p q e (Barred at y) none nothing says says_slots = kept_ahead p q says.0.is says.0.ahead says_slots
-  kept p q e (Held by passed) none nothing says says_slots = kept_ahead p q says.0.looks.is says.0.looks.ahead says_slots
+  kept p q e (Barred at y) none nothing says says_slots = kept_ahead p q says.0.sees.is says.0.sees.ahead says_slots
+  kept p q e (Held by passed) none nothing says says_slots = kept_ahead p q says.0.sees.is says.0.sees.ahead says_slots
   kept p q e Full none nothing says says_slots = kept_ahead p q says.0 says.1 says_slots
 
 -- an act that does not park gives no run back

@@ -22,8 +22,8 @@ module _ {S : Type 0} where
 
   pub seen_after : (e : Event) (v w : View S) (r : Put) → Says e v w r → StartsWith w.seen v.seen
   seen_after e v w (Placed n) says = subst (λ (h : List Event). StartsWith h v.seen) (sym (ap (λ (x : View S). x.seen) says.is)) (starts_trans _ says.history v.seen (starts_more says.history e) says.ahead.more)
-  seen_after e v w (Barred at y) says = says.0.ahead.more
-  seen_after e v w (Held by passed) says = says.0.looks.ahead.more
+  seen_after e v w (Barred at y) says = says.0.sees.ahead.more
+  seen_after e v w (Held by passed) says = says.0.sees.ahead.more
   seen_after e v w Full says = says.1.more
 
   -- and so through every answer of `put`

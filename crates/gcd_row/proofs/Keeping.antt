@@ -25,7 +25,7 @@ use Rattle.gcd_history.proofs.Public.TeamLaws.{givings_are_the_holders}
 use Rattle.gcd_row.specs.Shapes.{Shape}
 use Rattle.gcd_row.specs.Jobs.{May, placed_at, jobs_of, held_jobs}
 use Rattle.gcd_row.specs.Lying.{slot_of, Lies, HasSlots}
-use Rattle.gcd_row.specs.Views.{IsBack, given_terms, standing_of, spent_view, saw, noting, knowing, asked, passing, lending, newcomer, merging, note, hearing}
+use Rattle.gcd_row.specs.Views.{IsBack, given_terms, standing_of, spent_view, saw, noting, knowing, asked, looking, passing, lending, newcomer, merging, note, hearing}
 use Rattle.gcd_row.specs.Ring.{IsRing, is_news, lap, under, passed_word, gone}
 use Rattle.gcd_row.specs.Rule.{Knows, KnowsJobs, PassedWords, Homes, Kept, Holds}
 use Rattle.gcd_row.specs.Plays.{first_after, front_cell, KnowsFresh, Found, Turned, Wins, LaysBack, Looked, Tried, Ended, Compared, Unused, PutDown, Asks, Asked, PassedOn, Reread}
@@ -183,11 +183,11 @@ module _ {S : Type 0} (shape : S → Shape) (gives : S → ℕ → Type 0) (key 
       let P : ℕ → Type 0 = λ j. Goes s j id m (Looked (step n i 0 0 none) m) (get_or s.words j 0) in
       subst P (sym place) (⊎_elim
       (λ (all : (is_news (length v.seen) (get_or s.words j 0) ≡ false) × (v.seen ≡ k.history) × (get_or s.words j 0 ≡ under (map word_of v.seen))). (
-        v,
+        knowing v v.seen (looking v.marks (length v.seen)),
         keeps,
         tt,
-        stays s k j id v v at ok (idle t k.history s.views id v v.marks at k.knows live) refl (k.passed.pair id v at) refl refl,
-        (refl, (λ news. absurd (both_ways (is_news (length v.seen) (get_or s.words j 0)) all.0 news)), λ _. (record { same = refl; relayed = subst (λ (h : List Event). StartsWith h v.relayed) (sym all.1) (k.knows.relayed id v at); fresh = knows_fresh t k.history s.views id v at k.knows live }, all.2)),
+        stays s k j id v (knowing v v.seen (looking v.marks (length v.seen))) at ok (idle t k.history s.views id v (looking v.marks (length v.seen)) at k.knows live) refl (k.passed.pair id v at) refl refl,
+        (refl, (λ news. absurd (both_ways (is_news (length v.seen) (get_or s.words j 0)) all.0 news)), λ _. (record { view = refl; relayed = subst (λ (h : List Event). StartsWith h v.relayed) (sym all.1) (k.knows.relayed id v at); fresh = knows_fresh t k.history s.views id v at k.knows live }, all.2)),
       ))
       (λ (next : (e : Event) × (later : List Event) × (is_news (length v.seen) (get_or s.words j 0) ≡ true) × (k.history ≡ v.seen ++ e ∷ later) × (get_or s.words j 0 ≡ word_of e + lap (length v.seen)) × (why t.plan v.seen e ≡ None)). (
         saw v next.0,
@@ -202,11 +202,11 @@ module _ {S : Type 0} (shape : S → Shape) (gives : S → ℕ → Type 0) (key 
   ends n id i m ok full s k wide at fits64 =
       let live = ok.unspent in
       let all : m.0.seen ≡ k.history = starts_whole k.history m.0.seen (k.knows.seen id m.0 at) (omega (arith, in_room s k, full)) in (
-        m.0,
+        knowing m.0 m.0.seen (looking m.0.marks (length m.0.seen)),
         keeps,
         tt,
-        stays s k i id m.0 m.0 at ok (idle t k.history s.views id m.0 m.0.marks at k.knows live) refl (k.passed.pair id m.0 at) refl refl,
-        (refl, record { same = refl; relayed = subst (λ (h : List Event). StartsWith h m.0.relayed) (sym all) (k.knows.relayed id m.0 at); fresh = knows_fresh t k.history s.views id m.0 at k.knows live }),
+        stays s k i id m.0 (knowing m.0 m.0.seen (looking m.0.marks (length m.0.seen))) at ok (idle t k.history s.views id m.0 (looking m.0.marks (length m.0.seen)) at k.knows live) refl (k.passed.pair id m.0 at) refl refl,
+        (refl, record { view = refl; relayed = subst (λ (h : List Event). StartsWith h m.0.relayed) (sym all) (k.knows.relayed id m.0 at); fresh = knows_fresh t k.history s.views id m.0 at k.knows live }),
       )
 
   pub tells_again : (n id i : ℕ) (m : Me S (View S)) → MayRead m.0 → Allows (Holds shape gives key) n id m i (λ x. x) (Reread (step n i 0 0 none) m)

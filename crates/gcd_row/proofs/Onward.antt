@@ -1,5 +1,5 @@
 -- One event more in a loop, and in what a pass is.
-use Rattle.std.proofs.Common.{◌≡◌, ◌≢◌, ℕ, Some, Option, ◌+◌, ◌<◌, ◌≤◌, List, [], ◌∷◌, ◌++◌, length, sym, refl, ap, ◌∙◌, subst, arith, length-append, None, false, ne_eqb}
+use Rattle.std.proofs.Common.{◌≡◌, ◌≢◌, ℕ, suc, Some, Option, ◌+◌, ◌<◌, List, [], ◌∷◌, ◌++◌, length, sym, refl, ap, ◌∙◌, subst, arith, length-append, None, false, ne_eqb}
 use Rattle.gcd_event.specs.declared.event.Event.{Event}
 use Rattle.gcd_history.specs.Choice.{worker_of}
 use Rattle.gcd_history.specs.History.{why}
@@ -11,14 +11,20 @@ use Rattle.gcd_row.specs.declared.view.PassMarks.{PassMarks}
 use Rattle.gcd_row.specs.declared.view.View.{View}
 use Rattle.gcd_machine.specs.declared.put.Put.{Put}
 use Rattle.gcd_machine.specs.declared.put.Put.TheVariants.{Placed, Barred, Held, Full}
-use Rattle.gcd_row.specs.Views.{saw, seeing, noting, knowing, known, passing}
-use Rattle.gcd_row.specs.Plays.{SeesMore, HandsOn}
-use Rattle.gcd_row.specs.Passes.{Ahead, Learnt, LearntOn, Looks, IsHolder, IsPlaced, Says, Knew, Turns}
+use Rattle.gcd_row.specs.Views.{saw, seeing, noting, knowing, known, looking, passing}
+use Rattle.gcd_row.specs.Plays.{SeesMore, EndsHere, HandsOn, KnowsFresh}
+use Rattle.gcd_row.specs.Passes.{Ahead, IsLater, Learnt, LearntOn, Looks, Sees, IsHolder, IsPlaced, Says, Knew, Turns}
 use Rattle.gcd_row.proofs.Fronts.{starts_refl, starts_trans, starts_more, own_more}
 
 -- an event of another worker is not this one's
 pub of_another : (w : ℕ) (e : Event) → worker_of e ≢ w → is_of w e ≡ false
 of_another w e ne = ne_eqb (worker_of e) w ne
+
+pub is_later : (m n k : PassMarks) → IsLater m n → IsLater n k → IsLater m k
+is_later m n k a b = record { loads = omega (arith, a.loads, b.loads); looks = omega (arith, a.looks, b.looks) }
+
+pub same_later : (m n : PassMarks) → n ≡ m → IsLater m n
+same_later m n is = subst (IsLater m) (sym is) (record { loads = omega arith; looks = omega arith })
 
 module _ {S : Type 0} where
   pub learnt : (v w : View S) (e : Event) → SeesMore v e w → Learnt v w
@@ -50,16 +56,16 @@ module _ {S : Type 0} where
     pub place : n ≡ length w.seen
     pub known : w ≡ knowing v w.seen (known v w)
     pub ahead : Ahead v w.seen
-    pub loads : v.marks.loads ≤ w.marks.loads
+    pub later : IsLater v.marks w.marks
 
-  pub onward_on : (v u w : View S) (n : ℕ) → n ≡ length u.seen → u ≡ knowing v u.seen (known v u) → Ahead v u.seen → v.marks.loads ≤ u.marks.loads → LearntOn u w → Onward v w (n + 1)
-  onward_on v u w n len is a few l =
+  pub onward_on : (v u w : View S) (n : ℕ) → n ≡ length u.seen → u ≡ knowing v u.seen (known v u) → Ahead v u.seen → IsLater v.marks u.marks → LearntOn u w → Onward v w (n + 1)
+  onward_on v u w n len is a later l =
       let w_seen : w.seen ≡ u.seen ++ l.event ∷ [] = ap (λ (y : View S). y.seen) l.is in
       record {
         place = omega (arith, ap length w_seen, length-append u.seen (l.event ∷ []));
         known = l.is ∙ ap (λ (y : View S). knowing y (u.seen ++ l.event ∷ []) (known y w)) is ∙ ap (λ (h : List Event). knowing v h (known v w)) (sym w_seen);
         ahead = further v u w is a l.ahead;
-        loads = omega (arith, few, l.loads);
+        later = is_later v.marks u.marks w.marks later l.later;
       }
 
   -- one event more, with the same of the passed words
@@ -67,7 +73,7 @@ module _ {S : Type 0} where
   learnt_on v w l = record {
     event = l.event;
     is = l.is ∙ (λ i. knowing v (v.seen ++ l.event ∷ []) (known v (sym l.is i)));
-    loads = let same : w.marks.loads ≡ v.marks.loads = ap (λ (y : View S). y.marks.loads) l.is in omega (arith, same);
+    later = same_later v.marks w.marks (ap (λ (y : View S). y.marks) l.is);
     ahead = l.ahead;
     may = l.may;
     other = l.other;
@@ -98,19 +104,44 @@ module _ {S : Type 0} where
         own = ap (of_worker v.worker) w_seen ∙ own_more v.worker v.seen e mine;
       }
 
-  looks_on : (v u w : View S) → u ≡ knowing v u.seen (known v u) → Ahead v u.seen → Looks u w → Looks v w
-  looks_on v u w is a l = record {
+  sees_on : (v u w : View S) → u ≡ knowing v u.seen (known v u) → Ahead v u.seen → Sees u w → Sees v w
+  sees_on v u w is a l = record {
     is = l.is ∙ ap (λ (y : View S). knowing y w.seen (known y w)) is;
     ahead = further v u w is a l.ahead;
     relayed = subst (StartsWith w.seen) (ap (λ (y : View S). y.relayed) is) l.relayed;
     fresh = l.fresh;
   }
 
-  holder_on : (v u w : View S) (by passed : ℕ) → u ≡ knowing v u.seen (known v u) → v.marks.loads ≤ u.marks.loads → IsHolder u w by passed → IsHolder v w by passed
-  holder_on v u w by passed is few p = record {
+  looks_on : (v u w : View S) → u ≡ knowing v u.seen (known v u) → Ahead v u.seen → IsLater v.marks u.marks → Looks u w → Looks v w
+  looks_on v u w is a later l = record { sees = sees_on v u w is a l.sees; told = let few = later.looks in omega (arith, few, l.told); here = l.here }
+
+  -- a load told a loop that has come from v to u that the row is what u has seen
+  pub looks_here : (v u w : View S) → u ≡ knowing v u.seen (known v u) → Ahead v u.seen → IsLater v.marks u.marks → EndsHere u w → Looks v w
+  looks_here v u w is a later l =
+      let seen : w.seen ≡ u.seen = ap (λ (y : View S). y.seen) l.view in
+      looks_on v u w is a later (record {
+        sees = record {
+          is = knows_as u w w.seen (looking u.marks (length u.seen)) (l.view ∙ ap (λ (h : List Event). knowing u h (looking u.marks (length u.seen))) (sym seen)) refl;
+          ahead = subst (Ahead u) (sym seen) (stays_ahead u);
+          relayed = subst (λ (h : List Event). StartsWith h u.relayed) (sym seen) l.relayed;
+          fresh = subst KnowsFresh (sym l.view) l.fresh;
+        };
+        told = let more : w.marks.looks ≡ suc u.marks.looks = ap (λ (y : View S). y.marks.looks) l.view in omega (arith, more);
+        here = ap (λ (y : View S). y.marks.looked) l.view ∙ ap length (sym seen);
+      })
+
+  -- and knows nothing else
+  pub knew_here : (v w : View S) → EndsHere v w → Knew v w
+  knew_here v w l = record {
+    is = knows_as v w v.seen (looking v.marks (length v.seen)) l.view refl;
+    later = subst (IsLater v.marks) (sym (ap (λ (y : View S). y.marks) l.view)) (record { loads = omega arith; looks = omega arith });
+  }
+
+  holder_on : (v u w : View S) (by passed : ℕ) → u ≡ knowing v u.seen (known v u) → IsLater v.marks u.marks → IsHolder u w by passed → IsHolder v w by passed
+  holder_on v u w by passed is later p = record {
     worker = subst (λ (z : View S). by < z.terms.limits.workers) is p.worker;
     lap_ago = p.lap_ago;
-    loaded = omega (arith, few, p.loaded);
+    loaded = let few = later.loads in omega (arith, few, p.loaded);
     held = p.held;
     below = p.below;
     lowest = p.lowest;
@@ -118,8 +149,8 @@ module _ {S : Type 0} where
   }
 
   -- what an answer says after more was seen, it says of what was seen before
-  pub says_on : (e : Event) (v u w : View S) (r : Put) → u ≡ knowing v u.seen (known v u) → Ahead v u.seen → v.marks.loads ≤ u.marks.loads → Says e u w r → Says e v w r
-  says_on e v u w (Placed n) is a few p = record {
+  pub says_on : (e : Event) (v u w : View S) (r : Put) → u ≡ knowing v u.seen (known v u) → Ahead v u.seen → IsLater v.marks u.marks → Says e u w r → Says e v w r
+  says_on e v u w (Placed n) is a later p = record {
     history = p.history;
     ahead = record { more = starts_trans p.history u.seen v.seen p.ahead.more a.more; own = subst (λ (k : ℕ). of_worker k p.history ≡ of_worker k u.seen) (ap (λ (y : View S). y.worker) is) p.ahead.own ∙ a.own };
     place = p.place;
@@ -130,30 +161,30 @@ module _ {S : Type 0} where
     handed = subst (λ (x : Handed S). HandsOn (accepted e) x w.handed) (ap (λ (y : View S). y.handed) is) p.handed;
     own = subst (λ (k : ℕ). of_worker k w.seen ≡ of_worker k u.seen ++ e ∷ []) (ap (λ (y : View S). y.worker) is) p.own ∙ ap (λ (k : List Event). k ++ e ∷ []) a.own;
   }
-  says_on e v u w (Barred at y) is a few p = (looks_on v u w is a p.0, p.1, subst (λ (z : View S). at < z.terms.limits.most) is p.2, subst (λ (z : View S). why z.terms.plan w.seen e ≡ Some y) is p.3)
-  says_on e v u w (Held by passed) is a few p = (
+  says_on e v u w (Barred at y) is a later p = (looks_on v u w is a later p.0, p.1, subst (λ (z : View S). at < z.terms.limits.most) is p.2, subst (λ (z : View S). why z.terms.plan w.seen e ≡ Some y) is p.3)
+  says_on e v u w (Held by passed) is a later p = (
     record {
-      looks = looks_on v u w is a p.0.looks;
+      sees = sees_on v u w is a p.0.sees;
       room = subst (λ (z : View S). length w.seen < z.terms.limits.most) is p.0.room;
-      holder = holder_on v u w by passed is few p.0.holder;
+      holder = holder_on v u w by passed is later p.0.holder;
     },
     subst (λ (z : View S). why z.terms.plan w.seen e ≡ None) is p.1,
   )
-  says_on e v u w Full is a few p = (p.0 ∙ ap (λ (y : View S). knowing y w.seen (known y w)) is, further v u w is a p.1, subst (λ (z : View S). length w.seen ≡ z.terms.limits.most) is p.2)
+  says_on e v u w Full is a later p = (p.0 ∙ ap (λ (y : View S). knowing y w.seen (known y w)) is, further v u w is a p.1, subst (λ (z : View S). length w.seen ≡ z.terms.limits.most) is p.2)
 
   -- what a turn says after the pass has learnt more of the passed words
   pub turns_on : (e : Event) (v u w : View S) (r : Option Put) → Knew v u → Turns e u w r → Turns e v w r
   turns_on e v u w None k l = record {
     event = l.event;
     is = l.is ∙ ap (λ (y : View S). knowing y (y.seen ++ l.event ∷ []) (known y w)) k.is;
-    loads = omega (arith, k.loads, l.loads);
+    later = is_later v.marks u.marks w.marks k.later l.later;
     ahead = let a = subst (λ (y : View S). Ahead y w.seen) k.is l.ahead in record { more = a.more; own = a.own };
     may = subst (λ (y : View S). why y.terms.plan y.seen l.event ≡ None) k.is l.may;
     other = subst (λ (y : View S). worker_of l.event ≢ y.worker) k.is l.other;
   }
   turns_on e v u w (Some r) k says =
       let seen : u.seen ≡ v.seen = ap (λ (y : View S). y.seen) k.is in
-      says_on e v u w r (k.is ∙ (λ i. knowing v (sym seen i) (known v u))) (subst (Ahead v) (sym seen) (stays_ahead v)) k.loads says
+      says_on e v u w r (k.is ∙ (λ i. knowing v (sym seen i) (known v u))) (subst (Ahead v) (sym seen) (stays_ahead v)) k.later says
 
   -- where one event more was seen, the pass is known by that
   pub learnt_is : (v w : View S) → LearntOn v w → w ≡ knowing v w.seen (known v w)

@@ -6,8 +6,8 @@ use Rattle.gcd_row.specs.declared.view.PassMarks.{PassMarks}
 use Rattle.gcd_row.specs.declared.view.View.{View}
 use Rattle.gcd_row.specs.Views.{knowing, asked}
 use Rattle.gcd_row.specs.Plays.{Asks}
-use Rattle.gcd_row.specs.Passes.{Knew, IsHeldAt}
-use Rattle.gcd_row.proofs.Onward.{knows_as}
+use Rattle.gcd_row.specs.Passes.{IsLater, Knew, IsHeldAt}
+use Rattle.gcd_row.proofs.Onward.{is_later, knows_as, same_later}
 
 low : (f x n : ℕ) → n < f + 4096 → n < x + 4096 → n < min f x + 4096
 low f x n up lets = omega (arith, up, lets)
@@ -27,7 +27,7 @@ module _ {S : Type 0} where
     pub chain : k ≢ 0 → (w.marks.upto ≡ cond (eqb k v.terms.limits.workers) 64 k) × (n < w.marks.floor + 4096)
 
   pub begins : (v : View S) (n : ℕ) → Scans v v n 0
-  begins v n = record { knew = record { is = refl; loads = omega arith }; within = omega arith; chain = λ nz. absurd (nz refl) }
+  begins v n = record { knew = record { is = refl; later = same_later v.marks v.marks refl }; within = omega arith; chain = λ nz. absurd (nz refl) }
 
   pub upto_here : (v w : View S) (n k : ℕ) → Scans v w n k → k < v.terms.limits.workers → k ≢ 0 → w.marks.upto ≡ k
   upto_here v w n k s lt nz = (s.chain nz).0 ∙ ap (λ (b : Bool). cond {A = ℕ} b 64 k) (ne_eqb k v.terms.limits.workers (λ is. omega (arith, is, lt)))
@@ -38,10 +38,10 @@ module _ {S : Type 0} where
       ((s.chain nz).0 ∙ ap (λ (b : Bool). cond {A = ℕ} b 64 k) (eq-eqb k v.terms.limits.workers is), (s.chain nz).1)
 
   -- a load more
-  knew_on : (v u w : View S) (m : PassMarks) → Knew v u → w ≡ knowing u u.seen m → m.passed ≡ u.marks.passed → m.loads ≡ suc u.marks.loads → Knew v w
-  knew_on v u w m k now own more = record {
+  knew_on : (v u w : View S) (m : PassMarks) → Knew v u → w ≡ knowing u u.seen m → m.passed ≡ u.marks.passed → IsLater u.marks m → Knew v w
+  knew_on v u w m k now own later = record {
     is = knows_as v w v.seen m (now ∙ ap (λ (y : View S). knowing y y.seen m) k.is) (own ∙ ap (λ (y : View S). y.marks.passed) k.is);
-    loads = let last : w.marks.loads ≡ m.loads = ap (λ (y : View S). y.marks.loads) now in omega (arith, k.loads, last, more);
+    later = subst (IsLater v.marks) (sym (ap (λ (y : View S). y.marks) now)) (is_later v.marks u.marks m k.later later);
   }
 
   -- the word of the next is loaded, and lets event n be written
@@ -51,7 +51,7 @@ module _ {S : Type 0} where
       let now : w ≡ knowing u u.seen (asked u.terms.limits u.marks k x true) = asked_lets u w k x a (omega (arith, seen, len, lets)) in
       let workers = ap (λ (y : View S). y.terms.limits.workers) s.knew.is in
       record {
-        knew = knew_on v u w (asked u.terms.limits u.marks k x true) s.knew now refl refl;
+        knew = knew_on v u w (asked u.terms.limits u.marks k x true) s.knew now refl (record { loads = omega arith; looks = omega arith });
         within = omega arith;
         chain = λ _. (
           ap (λ (y : View S). y.marks.upto) now ∙ ap (λ (c : ℕ). cond {A = ℕ} (eqb (suc k) c) 64 (suc k)) workers,
@@ -75,13 +75,13 @@ module _ {S : Type 0} where
       let loads : w.marks.loads ≡ suc u.marks.loads = ap (λ (y : View S). y.marks.loads) now in
       let floor : w.marks.floor ≡ u.marks.floor = ap (λ (y : View S). y.marks.floor) now in
       record {
-        knew = knew_on v u w (asked u.terms.limits u.marks k x false) s.knew now refl refl;
+        knew = knew_on v u w (asked u.terms.limits u.marks k x false) s.knew now refl (record { loads = omega arith; looks = omega arith });
         relayed = subst (λ (y : View S). Rattle.gcd_history.specs.Team.StartsWith y.seen y.relayed) is ended.0;
         fresh = subst (λ (y : View S). Rattle.gcd_row.specs.Plays.KnowsFresh y) is ended.1;
         holder = record {
           worker = lt;
           lap_ago = omega (arith, passed, ago, there);
-          loaded = omega (arith, s.knew.loads, loads);
+          loaded = let few = s.knew.later.loads in omega (arith, few, loads);
           held = ap (λ (y : View S). y.marks.held) now ∙ ap (λ (y : ℕ). Some (k, y)) passed;
           below = ap (λ (y : View S). y.marks.upto) now;
           lowest = λ nz. let up = (s.chain nz).1 in omega (arith, up, floor, there);

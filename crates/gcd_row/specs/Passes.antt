@@ -22,6 +22,7 @@ use Rattle.gcd_row.specs.Jobs.{Jobs, held_jobs}
 use Rattle.gcd_row.specs.Lying.{slots_of, slot_of, Lies, HasSlots}
 use Rattle.gcd_row.specs.Views.{IsBack, given_terms, held_run, knowing, known, noting, seeing, hearing, merging}
 use Rattle.gcd_row.specs.Plays.{KnowsFresh, HandsOn, Turned, front_cell}
+use Rattle.gcd_row.specs.declared.view.PassMarks.{PassMarks}
 use Rattle.gcd_row.specs.declared.view.Terms.{Terms}
 use Rattle.gcd_row.specs.declared.view.View.{View}
 use Rattle.gcd_row.specs.declared.pass.RowPass.{RowPass}
@@ -34,6 +35,11 @@ pub record MayRead {S : Type 0} (v : View S) : Type 0 where
   pub unspent : v.spent ≡ false
   pub number : v.worker < 64
   pub passed : v.marks.passed ≤ length v.seen
+
+-- a pass that has loaded no fewer words since
+pub record IsLater (m n : PassMarks) : Type 0 where
+  pub loads : m.loads ≤ n.loads
+  pub looks : m.looks ≤ n.looks
 
 module _ {S : Type 0} where
   -- what a pass knows
@@ -85,13 +91,19 @@ module _ {S : Type 0} where
     pub may : why v.terms.plan v.seen event ≡ None
     pub other : worker_of event ≢ v.worker
 
-  -- it has seen the row as it was at a moment of the call: no less than it had seen or than was relayed to it before, nothing more of its
-  -- own, and nothing of a number that was never given out
-  pub record Looks (v w : View S) : Type 0 where
+  -- it has seen the row as it was at some moment: no less than it had seen or than was relayed to it before, nothing more of its own, and
+  -- nothing of a number that was never given out
+  pub record Sees (v w : View S) : Type 0 where
     pub is : w ≡ knowing v w.seen (known v w)
     pub ahead : Ahead v w.seen
     pub relayed : StartsWith w.seen v.relayed
     pub fresh : KnowsFresh w
+
+  -- it has seen the row as it was at a load in the call, which told that the row was what the pass has seen now
+  pub record Looks (v w : View S) : Type 0 where
+    pub sees : Sees v w
+    pub told : v.marks.looks < w.marks.looks
+    pub here : w.marks.looked ≡ length w.seen
 
   -- its event stands behind the history h, which is longer only by others' events
   pub record IsPlaced (e : Event) (v w : View S) (n : ℕ) : Type 0 where
@@ -105,10 +117,10 @@ module _ {S : Type 0} where
     pub handed : HandsOn (accepted e) v.handed w.handed
     pub own : of_worker v.worker w.seen ≡ of_worker v.worker v.seen ++ e ∷ []
 
-  -- it knows something else of the passed words, and nothing more
+  -- it knows something else of the passed words and of its loads, and nothing more
   pub record Knew (v w : View S) : Type 0 where
     pub is : w ≡ knowing v v.seen (known v w)
-    pub loads : v.marks.loads ≤ w.marks.loads
+    pub later : IsLater v.marks w.marks
 
   -- the passed word that it loaded last is that of worker `by`, and it has loaded one since v: it is `passed`, a lap ago, and those of
   -- lower numbers let the next event be written
@@ -130,7 +142,7 @@ module _ {S : Type 0} where
 
   -- the same, as `put` answers it
   pub record IsHeld (v w : View S) (by passed : ℕ) : Type 0 where
-    pub looks : Looks v w
+    pub sees : Sees v w
     pub room : length w.seen < v.terms.limits.most
     pub holder : IsHolder v w by passed
 
@@ -177,7 +189,7 @@ module _ {S : Type 0} where
   pub record LearntOn (v w : View S) : Type 0 where
     pub event : Event
     pub is : w ≡ knowing v (v.seen ++ event ∷ []) (known v w)
-    pub loads : v.marks.loads ≤ w.marks.loads
+    pub later : IsLater v.marks w.marks
     pub ahead : Ahead v w.seen
     pub may : why v.terms.plan v.seen event ≡ None
     pub other : worker_of event ≢ v.worker

@@ -15,7 +15,7 @@ use Rattle.gcd_row.specs.Ring.{is_news, lap, passed_words, ring, under}
 use Rattle.gcd_row.specs.Shapes.{Shape, body}
 use Rattle.gcd_row.specs.Jobs.{Jobs, held_jobs}
 use Rattle.gcd_row.specs.Lying.{slot_of, Lies}
-use Rattle.gcd_row.specs.Views.{standing_of, saw, knowing, noting, turning, asked, passing}
+use Rattle.gcd_row.specs.Views.{standing_of, saw, knowing, noting, turning, asked, looking, passing}
 use Rattle.gcd_row.specs.declared.view.Handed.{Handed}
 use Rattle.gcd_row.specs.declared.view.Next.{Next}
 use Rattle.gcd_row.specs.declared.view.Next.TheVariants.{First, Out, Laid}
@@ -33,9 +33,9 @@ module _ {S : Type 0} where
   abbrev pub KnowsFresh : View S → Type 0
   KnowsFresh v = v.worker ≡ 0 → (w : ℕ) → w ≢ 0 → standing_of v.hands w ≡ None → of_worker w v.seen ≡ []
 
-  -- the row is what the pass has seen, so it begins with what was relayed to the pass
+  -- the row is what the pass has seen, so it begins with what was relayed to the pass; the pass counts that it was told so
   pub record EndsHere (v w : View S) : Type 0 where
-    pub same : w ≡ v
+    pub view : w ≡ knowing v v.seen (looking v.marks (length v.seen))
     pub relayed : StartsWith v.seen v.relayed
     pub fresh : KnowsFresh v
 
@@ -118,7 +118,7 @@ module _ {S : Type 0} where
 
   -- any load, by a pass that has seen as many events as there can be
   abbrev pub Ended : Step S → Me S (View S) → ℕ → Me S (View S) → Type 0
-  Ended st m n k = (k ≡ m) × EndsHere m.0 k.0
+  Ended st m n k = (k.1 ≡ m.1) × EndsHere m.0 k.0
 
   -- any load, of a pass to which another relayed what it has seen
   abbrev pub Compared : Step S → Me S (View S) → ℕ → Me S (View S) → Type 0

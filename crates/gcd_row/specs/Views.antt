@@ -25,19 +25,23 @@ longer a b = cond (nat_lt (length a) (length b)) b a
 
 -- what a pass knows of the passed words at first: that they are at least this
 abbrev pub first_marks : ℕ → PassMarks
-first_marks n = record { passed = n; floor = n; upto = 64; loads = 0; held = None }
+first_marks n = record { passed = n; floor = n; upto = 64; loads = 0; held = None; looks = 0; looked = n }
 
 abbrev pub no_marks : PassMarks
-no_marks = record { passed = 0; floor = 0; upto = 0; loads = 0; held = None }
+no_marks = record { passed = 0; floor = 0; upto = 0; loads = 0; held = None; looks = 0; looked = 0 }
 
 -- where the passed word of worker k is x, and those below it are known: x lets the next event be written, or it does not
 abbrev pub asked : Limits → PassMarks → ℕ → ℕ → Bool → PassMarks
-asked l m k x true = record { passed = m.passed; floor = cond (k == 0) x (min m.floor x); upto = cond (suc k == l.workers) 64 (suc k); loads = suc m.loads; held = None }
-asked l m k x false = record { passed = m.passed; floor = m.floor; upto = k; loads = suc m.loads; held = Some (k, x) }
+asked l m k x true = record { passed = m.passed; floor = cond (k == 0) x (min m.floor x); upto = cond (suc k == l.workers) 64 (suc k); loads = suc m.loads; held = None; looks = m.looks; looked = m.looked }
+asked l m k x false = record { passed = m.passed; floor = m.floor; upto = k; loads = suc m.loads; held = Some (k, x); looks = m.looks; looked = m.looked }
 
 -- where the pass's own is x
 abbrev pub passing : PassMarks → ℕ → PassMarks
-passing m x = record { passed = x; floor = m.floor; upto = m.upto; loads = m.loads; held = m.held }
+passing m x = record { passed = x; floor = m.floor; upto = m.upto; loads = m.loads; held = m.held; looks = m.looks; looked = m.looked }
+
+-- where a load told that the row was these n events
+abbrev pub looking : PassMarks → ℕ → PassMarks
+looking m n = record { passed = m.passed; floor = m.floor; upto = m.upto; loads = m.loads; held = m.held; looks = suc m.looks; looked = n }
 
 module _ {S : Type 0} where
   -- nothing was handed in

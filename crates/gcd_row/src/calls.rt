@@ -4,7 +4,7 @@ ghost use Rattle.gcd_event.specs.Words.{word_of};
 ghost use Rattle.gcd_history.specs.Choice.{worker_of};
 ghost use Rattle.gcd_history.specs.History.{why};
 ghost use Rattle.gcd_row.specs.Lying.{GivesBack};
-ghost use Rattle.gcd_row.specs.Passes.{IsPassOf, Learnt, LearntOn, Looks, Says, SaysSlots, Turns, TurnsSlots, slots, terms_of, view};
+ghost use Rattle.gcd_row.specs.Passes.{IsPassOf, Knew, Learnt, LearntOn, Looks, Says, SaysSlots, Turns, TurnsSlots, slots, terms_of, view};
 ghost use Rattle.gcd_row.specs.Plays.{EndsHere};
 ghost use Rattle.gcd_row.specs.Ring.{under};
 
@@ -166,7 +166,7 @@ impl<S: Slot> RowBoard<S> {
         requires place { (n ≡ length (view pass.old).seen) × (n < self.now.table.shared.key.limits.most) }
         ensures pass { IsPassOf S.shape S.gives self.now pass.new }
         ensures slots { slots pass.new ≡ slots pass.old }
-        ensures known { IfSome result (λ x. (view pass.new ≡ view pass.old) × (x ≡ under (map word_of (view pass.old).seen))) }
+        ensures known { IfSome result (λ x. Knew (view pass.old) (view pass.new) × (x ≡ under (map word_of (view pass.old).seen))) }
         ensures seen { IfNone result (LearntOn (view pass.old) (view pass.new)) }
     {
         match self.beneath(pass, n) {

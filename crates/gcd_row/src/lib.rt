@@ -44,8 +44,8 @@
 //! | [`RowBoard::new`] | a board with an empty row and worker 0's pass, or out of memory | `AreFirst`, `first_view` |
 //! | [`RowBoard::after`] | a board whose row begins with a history, and worker 0's pass, which has passed it; or cells and machine, where memory runs out | `Opens`, `first_view` |
 //! | [`RowBoard::most`] | how many events the row can have | `Limits` |
-//! | [`RowBoard::look`] | the length of the row at a moment of the call, which the pass has then seen | `Looks` |
-//! | [`RowBoard::put`], [`RowBoard::put_chosen`] | the event is event n; or the row was what the pass has now seen, after which the event is not permitted, with the first reason, or is held, with the lowest worker that has still to pass the event a lap ago; or the row is full | `Says`, `SaysSlots` |
+//! | [`RowBoard::look`] | the length of the row at a load in the call, which the pass has then seen | `Looks` |
+//! | [`RowBoard::put`], [`RowBoard::put_chosen`] | the event is event n; or the row, at a load in the call, was what the pass has now seen, after which the event is not permitted, with the first reason, or is held, with the lowest worker that has still to pass the event a lap ago; or the row is full | `Says`, `SaysSlots` |
 //! | [`RowBoard::pass_on`] | a helper's passed word is what its pass has seen | `passing` |
 //! | [`RowBoard::gather`] | worker 0's journal is what its pass has seen, and its passed word says how much that is; or out of memory | `IsGathered`, `passing` |
 //! | [`RowBoard::split`] | a pass for a new number, with the machine that it was given | `lending`, `newcomer` |
@@ -69,12 +69,10 @@
 //! is one lemma that it keeps the rule (`proofs/Keeping`), over lemmas on one part of the rule each: cells (`RowWords`), passed words
 //! (`Marking`, `Parted`), views (`Seen`, `Parting`), jobs (`Jobs`, `Handing`), slots (`Holding`, `Landing`, `Laying`). An exchange that finds the word of the event a lap ago
 //! is the next event's, whatever words the two have: as the pass's own passed word stands, the cell has that event or the next, and their
-//! lap bits differ. That a held event is held by a word loaded in the call is said by a count of such loads in the view, and by what the
-//! last of them found. That `look` sees the row as it is at a moment of the call is said by what a
-//! pass had *relayed* to it: a beginning of the history that another has seen, which is then in what it sees. None is relayed to a
-//! helper before its join, and for it this rests on the form of `load_word` and `exchange_word` (`src/words.rt`), by which alone `look`
-//! and `put` read a word of the row: they are proved over every rule of a table and every kind of step, and say what that kind says
-//! of the word and of the number found there, so that number can only come from a step on that word in the call.
+//! lap bits differ. That an answer rests on a load in the call is said by counts in the view. It counts the loads that found the row to be
+//! what the pass had seen, and keeps its length at the last of them: `look` and `Barred` say that the count rose, and that the length is
+//! what is seen now. It also counts the loads of passed words, and keeps what the last of them found where that held an event: so `Held`
+//! says that a word loaded in the call holds the event. Only a step on the word changes a count (`specs/Plays`).
 //!
 //! The fields of [`RowBoard`] and [`RowPass`] are the crate's own. Clauses, definitions and proofs of other crates name `terms_of`
 //! of a board, and `view`, `slots`, `machine_of` and `worker_number` of a pass (`specs/Passes`).

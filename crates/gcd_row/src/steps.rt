@@ -191,7 +191,7 @@ impl<S: Slot> RowBoard<S> {
         requires board { seat.old.table_id ≡ self.now.table.shared.table_id }
         requires may { MayRead seat.old.me.0 }
         requires full { length seat.old.me.0.seen ≡ self.now.table.shared.key.limits.most }
-        ensures board { (seat.new.table_id ≡ seat.old.table_id) × (seat.new.me ≡ seat.old.me) }
+        ensures board { (seat.new.table_id ≡ seat.old.table_id) × (seat.new.me.1 ≡ seat.old.me.1) }
         ensures ends { EndsHere seat.old.me.0 seat.new.me.0 }
     {
         load_word::<S, View<S>, Copies<S>, Lawful, End>(&self.table.shared, seat, 0);

@@ -37,7 +37,7 @@ pub enum Standing {
     Back,
 }
 
-/// What a pass knows of the passed words.
+/// What a pass knows of the passed words, and of its loads.
 pub struct PassMarks {
     /// Its own.
     pub passed: u64,
@@ -48,6 +48,10 @@ pub struct PassMarks {
     pub loads: u64,
     /// The one that it loaded last, where that did not let the next event be written: whose it is, and what it was.
     pub held: Option<(u8, u64)>,
+    /// How often a load told it that the row was what it had seen.
+    pub looks: u64,
+    /// How many events it had seen at the last of these loads.
+    pub looked: u64,
 }
 
 /// What lies in the slot of the block of the intake that is accepted next.

@@ -1,11 +1,11 @@
 use Rattle.std.proofs.Common.{◌∙◌}
 use Rattle.gcd_machine.specs.declared.put.Put.TheVariants.{Held}
 use Rattle.gcd_pool.specs.declared.hand.Hand.{Hand}
-use Rattle.gcd_pool.proofs.Throughs.{looks_waits, passing_waits, put_said, put_then, waited_gives, waits_further}
+use Rattle.gcd_pool.proofs.Throughs.{sees_waits, passing_waits, put_said, put_then, waited_gives, waits_further}
 use Rattle.gcd_row.specs.Passes.{view}
 use Rattle.gcd_row.proofs.AfterPut.{same_numbers}
 use Rattle.gcd_pool.proofs.Puts.{says_goes_on}
-use Rattle.gcd_pool.proofs.Serves.{looks_serves, serves_further, serves_pass}
+use Rattle.gcd_pool.proofs.Serves.{sees_serves, serves_further, serves_pass}
 use Rattle.gcd_pool.proofs.putting.put_through.Goals as goal
 
 pub returns-in_default-clause-serving : goal.returns-in_default-clause-serving
@@ -32,8 +32,8 @@ returns-then-not-let_go-clause-said g c = record {
 
 pub loop-preserved : goal.loop-preserved
 loop-preserved g c =
-    let looked = looks_waits c.loop.hand.pass c.put-answer.new.pass c.in-Held.ensures.view.0.looks c.in-Held.ensures.slots in
-    let had = looks_serves g.S.Slot.shape g.S.Slot.gives c.args.pool.now c.loop.hand c.put-answer.new.pass c.loop.invariant.serving.of c.in-Held.ensures.pass c.in-Held.ensures.view.0.looks in
+    let looked = sees_waits c.loop.hand.pass c.put-answer.new.pass c.in-Held.ensures.view.0.sees c.in-Held.ensures.slots in
+    let had = sees_serves g.S.Slot.shape g.S.Slot.gives c.args.pool.now c.loop.hand c.put-answer.new.pass c.loop.invariant.serving.of c.in-Held.ensures.pass c.in-Held.ensures.view.0.sees in
     let first = c.args.hand.now in
     let held : Hand g.row.S.Denot = record { pass = c.put-answer.new.pass; bench = c.loop.hand.bench; journal = c.loop.hand.journal } in
     let passed = passing_waits c.put-answer.new.pass c.let_go.new.hand.pass c.let_go.ensures.view c.let_go.ensures.slots in

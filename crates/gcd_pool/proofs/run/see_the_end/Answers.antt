@@ -1,4 +1,4 @@
-use Rattle.gcd_pool.proofs.Serves.{looks_serves, serves_further, serves_nothing}
+use Rattle.gcd_pool.proofs.Serves.{sees_serves, serves_further, serves_nothing}
 use Rattle.gcd_pool.proofs.Told.{to_end}
 use Rattle.gcd_pool.proofs.run.see_the_end.Goals as goal
 
@@ -8,7 +8,7 @@ loop-init g c = serves_nothing g.S.Slot.shape g.S.Slot.gives c.args.pool.now c.a
 pub loop-preserved : goal.loop-preserved
 loop-preserved g c =
     serves_further g.S.Slot.shape g.S.Slot.gives c.args.pool.now c.args.hand.now c.loop.hand (record { pass = c.look.new.pass; bench = c.loop.hand.bench; journal = c.loop.hand.journal }) c.loop.invariant
-    (looks_serves g.S.Slot.shape g.S.Slot.gives c.args.pool.now c.loop.hand c.look.new.pass c.loop.invariant.of c.look.ensures.pass c.look.ensures.view)
+    (sees_serves g.S.Slot.shape g.S.Slot.gives c.args.pool.now c.loop.hand c.look.new.pass c.loop.invariant.of c.look.ensures.pass c.look.ensures.view.sees)
 
 pub returns-then-has_ended : goal.returns-then-has_ended
 returns-then-has_ended g c = record {
