@@ -15,9 +15,12 @@ use Rattle.gcd_row.specs.Jobs.{Jobs, placed_at, jobs_of, placed_jobs}
 use Rattle.gcd_row.specs.Lying.{slot_of, Lies}
 use Rattle.gcd_row.specs.Views.{IsBack, given_terms, standing_of}
 use Rattle.gcd_row.specs.Rule.{Knows, Holds}
-use Rattle.gcd_row.specs.Passes.{AtRest, MayRead}
+use Rattle.gcd_row.specs.Closing.{IsWholeRow}
+use Rattle.gcd_row.specs.Passes.{AtRest, IsPassOf, MayRead, view}
 use Rattle.gcd_row.specs.Ring.{lap}
 use Rattle.gcd_row.proofs.RowWords.{rereads}
+use Rattle.gcd_row.specs.declared.board.RowBoard.{RowBoard}
+use Rattle.gcd_row.specs.declared.pass.RowPass.{RowPass}
 use Rattle.gcd_row.specs.declared.view.Copies.{Copies}
 use Rattle.gcd_row.specs.declared.view.Handed.{Handed}
 use Rattle.gcd_row.specs.declared.view.Standing.TheVariants.{Out}
@@ -34,6 +37,11 @@ module _ {S : Type 0} where
       (λ zero_is. let here : w.0 ≡ id = k.alone w.0 id w.1 v w.2 at w.3 live (zero_is ∙ sym head_is) in
       ap (λ (x : View S). x.seen) (sym (at_once views id w.1 v (subst (λ (n : ℕ). get_elem? views n ≡ some w.1) here w.2) at)) ∙ w.4)
       (λ ne. absurd (all_in w.1.worker ((k.head id v at live head_is).out w.0 w.1 w.2 w.3 ne)))
+
+pub whole_row : {S : Type 0} (shape : S → Shape) (gives : S → ℕ → Type 0) (b : RowBoard S) (p : RowPass S) (h : List Event) → IsPassOf shape gives b p → (view p).worker ≡ 0 → ((w : ℕ) → standing_of (view p).hands w ≢ Some Out) → h ≡ (view p).seen → IsWholeRow shape gives b p h
+unfolding IsWholeRow
+whole_row shape gives b p h is head_is all_in same = λ s k at.
+    sym (all_seen (given_terms b.table.shared.key) k.history s.views p.seat.id (view p) at k.knows is.may_read.unspent head_is all_in) ∙ sym same
 
 pub record Closes {S : Type 0} (shape : S → Shape) (gives : S → ℕ → Type 0) (t : Jobs S) (h : List Event) (from : ℕ) (ws : List ℕ) (xs : List S) : Type 0 where
   pub words : (i : ℕ) → from ≤ i → i < length h → get_or ws (suc (i % 4096)) 0 ≡ get_or (map word_of h) i 0 + lap i

@@ -11,3 +11,4 @@ pub mod Rule
 pub mod Plays
 pub mod Passes
 pub mod Opening
+pub mod Closing

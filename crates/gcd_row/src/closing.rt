@@ -2,6 +2,7 @@
 ghost use Rattle.std.specs.Prelude.{◌≡◌, ◌≢◌, ℕ, ◌≤◌, [], length, vec_capacity, IfOk, IfErr, Some};
 ghost use Rattle.std.specs.Mem.Slots.{slots_items, slots_len, IsFull};
 ghost use Rattle.gcd_machine.specs.Stands.{StandsFor};
+ghost use Rattle.gcd_row.specs.Closing.{IsWholeRow};
 ghost use Rattle.gcd_row.specs.Jobs.{placed_jobs};
 ghost use Rattle.gcd_row.specs.Passes.{IsPassOf, IsGathered, AtRest, view};
 ghost use Rattle.gcd_row.specs.Views.{standing_of};
@@ -46,6 +47,7 @@ impl<S: Slot + Drop> RowBoard<S> {
         requires all_in { (w : ℕ) → standing_of (view pass).hands w ≢ Some Out }
         requires journal { IsGathered (view pass) journal.items }
         ensures events { IfOk result (λ r. r.0.items ≡ (view pass).seen) }
+        ensures whole { IfOk result (λ r. IsWholeRow S.shape S.gives self pass r.0.items) }
         ensures cells { IfOk result (λ r. AtRest S.shape S.gives (placed_jobs (view pass)) (view pass).seen r.1.items) }
         ensures err { IfErr result (λ r. (r.0 ≡ self) × (r.1 ≡ pass) × (r.2.items ≡ journal.items)) }
     {
@@ -67,6 +69,7 @@ impl<S: Slot + Drop> RowBoard<S> {
         requires all_in { (w : ℕ) → standing_of (view pass).hands w ≢ Some Out }
         requires journal { IsGathered (view pass) journal.items }
         ensures events { IfOk result (λ r. r.0.items ≡ (view pass).seen) }
+        ensures whole { IfOk result (λ r. IsWholeRow S.shape S.gives self pass r.0.items) }
         ensures cells { IfOk result (λ r. AtRest S.shape S.gives (placed_jobs (view pass)) (view pass).seen r.1.items) }
         ensures machine { IfOk result (λ r. StandsFor r.2 (view pass).terms.plan (view pass).seen) }
         ensures err { IfErr result (λ r. (r.0 ≡ self) × (r.1 ≡ pass) × (r.2.items ≡ journal.items)) }

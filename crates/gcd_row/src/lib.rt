@@ -53,7 +53,7 @@
 //! | [`RowBoard::take_body`], [`RowBoard::give_body`], [`RowBoard::give_done`] | a block's body or value, from the slot of the run that the pass holds and into it | `MayGive` |
 //! | [`RowBoard::place_body`] | what lay in the slot of the intake's next block, where the job lies then; with the block's Accept it is the block's job | `turning`, `IsLaid`, `HandsOn` |
 //! | [`RowBoard::take_handler`], [`RowBoard::give_handler`] | the same of a source's handler | `IsUntaken`, `IsServed` |
-//! | [`RowBoard::close`], [`RowBoard::close_whole`] | the journal with the rest of the whole history, and all slots, or out of memory; the second also gives the machine | `AtRest` |
+//! | [`RowBoard::close`], [`RowBoard::close_whole`] | the journal with the rest of the whole history, which is that of the row, and all slots, or out of memory; the second also gives the machine | `IsWholeRow`, `AtRest` |
 //! | [`RowPass::machine`], [`RowPass::worker`] | the machine, which stands for what the pass has seen, and the number | |
 //!
 //! A board takes 33,288 bytes for its words, however many events it is made for, and its slots; a pass takes a machine; a journal grows

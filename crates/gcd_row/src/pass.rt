@@ -97,6 +97,7 @@ impl<S: Slot> RowPass<S> {
 }
 
 impl<S: Slot + Drop> RowPass<S> {
+    ghost use Rattle.gcd_row.specs.Closing.{IsWholeRow};
     ghost use Rattle.gcd_row.specs.Jobs.{placed_jobs};
     ghost use Rattle.gcd_row.specs.Passes.{IsPassOf, IsGathered, AtRest, view};
     ghost use Rattle.gcd_row.specs.Views.{standing_of};
@@ -114,6 +115,7 @@ impl<S: Slot + Drop> RowPass<S> {
         requires all_in { (w : ℕ) → standing_of (view self).hands w ≢ Some Out }
         requires journal { IsGathered (view self) journal.items }
         ensures events { IfOk result (λ r. r.0.items ≡ (view self).seen) }
+        ensures whole { IfOk result (λ r. IsWholeRow S.shape S.gives board self r.0.items) }
         ensures cells { IfOk result (λ r. AtRest S.shape S.gives (placed_jobs (view self)) (view self).seen r.1.items) }
         ensures machine { IfOk result (λ r. StandsFor r.2 (view self).terms.plan (view self).seen) }
         ensures err { IfErr result (λ r. (r.0 ≡ board) × (r.1 ≡ self) × (r.2.items ≡ journal.items)) }

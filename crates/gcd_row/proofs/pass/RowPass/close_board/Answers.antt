@@ -5,7 +5,7 @@ use Rattle.gcd_event.specs.declared.event.Event.{Event}
 use Rattle.gcd_row.specs.Jobs.{placed_jobs}
 use Rattle.gcd_row.specs.Ring.{lap}
 use Rattle.gcd_row.specs.Passes.{view, AtRest}
-use Rattle.gcd_row.proofs.Ending.{closes, event_at, at_value}
+use Rattle.gcd_row.proofs.Ending.{closes, event_at, at_value, whole_row}
 use Rattle.gcd_row.proofs.pass.RowPass.close_board.Goals as goal
 
 pub push_reserved-requires : goal.push_reserved-requires
@@ -52,3 +52,6 @@ returns-clause-cells g c =
     let p = c.args.self in let v = view p in let r = c.close_with-closed.result in let q = c.requires.pass in
     let z = closes _ _ c.args.board.table.shared.key p.seat.id v (slots_items r.words) (slots_items r.slots) c.close_with-closed.ensures.values.2 q.may_read c.requires.head c.requires.all_in q.back in
     subst (AtRest g.S.Slot.shape g.S.Slot.gives (placed_jobs v) v.seen) (sym c.take_all.ensures) z.rest
+
+pub returns-clause-whole : goal.returns-clause-whole
+returns-clause-whole g c = whole_row _ _ c.args.board c.args.self _ c.requires.pass c.requires.head c.requires.all_in (returns-clause-events g c)
