@@ -47,44 +47,17 @@ static SUBMITTED: [(&str, usize); 8] = [
 
 /// The block that a line of these words submits.
 pub fn submitted_by<'a>(words: Words<'a>) -> Option<&'a str> {
-    match pick(&SUBMITTED, words.first) {
-        Some(place) => Some(words.get(place)),
-        None => None,
-    }
+    let place = pick(&SUBMITTED, words.first)?;
+    Some(words.get(place))
 }
 
-// A line that is looked for.
-#[derive(Clone, Copy)]
-enum Sought<'a> {
-    // One that begins with the word.
-    First(&'a str),
-    // One that begins with the first word, and has the second at that place after it, from 0.
-    Naming(&'a str, usize, &'a str),
-    // One that declares the name.
-    Declaring(&'a str),
-    // One that submits the block.
-    Submitting(&'a str),
-}
-
-impl<'a> Sought<'a> {
-    // Whether a line of these words is such a line.
-    fn is_met(self, words: Words) -> bool {
-        match self {
-            Sought::First(first) => words.first == first,
-            Sought::Naming(first, place, name) => words.first == first && words.get(place) == name,
-            Sought::Declaring(name) => words.get(0) == name && declared_by(words).is_some(),
-            Sought::Submitting(block) => submitted_by(words) == Some(block),
-        }
-    }
-}
-
-// The first such line.
-fn first_line<'a>(text: &'a [u8], sought: Sought) -> Option<Found<'a>> {
-    let mut line = 0u32;
-    for bytes in Lines::of(text) {
-        line = line.saturating_add(1);
+// The first line whose words are such.
+fn first_line<'a, F: Fn(Words) -> bool>(text: &'a [u8], is_met: F) -> Option<Found<'a>>
+    requires { F.IsAlwaysCallable is_met }
+{
+    for (line, bytes) in Lines::of(text) {
         if let Some(words) = Words::of(bytes) {
-            if sought.is_met(words) {
+            if is_met(words) {
                 return Some(Found { line, words });
             }
         }
@@ -94,10 +67,8 @@ fn first_line<'a>(text: &'a [u8], sought: Sought) -> Option<Found<'a>> {
 
 // The last line above that number which opens a handler.
 fn open_handler<'a>(text: &'a [u8], below: u32) -> Option<Found<'a>> {
-    let mut line = 0u32;
     let mut found = None;
-    for bytes in Lines::of(text) {
-        line = line.saturating_add(1);
+    for (line, bytes) in Lines::of(text) {
         if line >= below {
             break;
         }
@@ -109,29 +80,48 @@ fn open_handler<'a>(text: &'a [u8], below: u32) -> Option<Found<'a>> {
     found
 }
 
+// The first line that declares the name.
+fn declaring<'a>(text: &'a [u8], name: &str) -> Option<Found<'a>> {
+    first_line(
+        text,
+        |words| words.get(0) == name && declared_by(words).is_some(),
+    )
+}
+
+// The first line that begins with the first word, and has the name at that place after it, from 0.
+fn naming<'a>(text: &'a [u8], first: &str, place: usize, name: &str) -> Option<Found<'a>> {
+    first_line(
+        text,
+        |words| words.first == first && words.get(place) == name,
+    )
+}
+
 /// The line that the cause is about beside the refused line, which has these words: that which declares its name, submits its block,
 /// or opens the handler.
 pub fn other_line<'a>(
     text: &'a [u8],
     line: u32,
     cause: Cause,
-    words: Words<'a>,
+    refused: Words<'a>,
 ) -> Option<Found<'a>> {
-    let sought = match cause {
-        Cause::SecondUntil | Cause::SecondIntake | Cause::SecondMain => Sought::First(words.first),
-        Cause::TakenName => Sought::Declaring(words.get(0)),
-        Cause::UnknownName { place } | Cause::NotObject { place, .. } => {
-            Sought::Declaring(words.at(place))
+    match cause {
+        Cause::SecondUntil | Cause::SecondIntake | Cause::SecondMain => {
+            first_line(text, |words| words.first == refused.first)
         }
-        Cause::NotFile { place } | Cause::NotBlock { place } | Cause::NotStrip { place } => {
-            Sought::Declaring(words.at(place))
+        Cause::TakenName => declaring(text, refused.get(0)),
+        Cause::UnknownName { place }
+        | Cause::NotFile { place }
+        | Cause::NotBlock { place }
+        | Cause::NotStrip { place }
+        | Cause::NotObject { place, .. } => declaring(text, refused.at(place)),
+        Cause::SubmittedTwice => {
+            let block = submitted_by(refused)?;
+            first_line(text, |words| submitted_by(words) == Some(block))
         }
-        Cause::SubmittedTwice => Sought::Submitting(submitted_by(words)?),
-        Cause::AppliedTwice => Sought::Naming("apply", 1, words.get(1)),
-        Cause::SecondHandler => Sought::Naming("handler", 0, words.get(0)),
-        Cause::SecondCancel => Sought::Naming("cancelled", 0, words.get(0)),
-        Cause::InHandler => return open_handler(text, line),
-        _ => return None,
-    };
-    first_line(text, sought)
+        Cause::AppliedTwice => naming(text, "apply", 1, refused.get(1)),
+        Cause::SecondHandler => naming(text, "handler", 0, refused.get(0)),
+        Cause::SecondCancel => naming(text, "cancelled", 0, refused.get(0)),
+        Cause::InHandler => open_handler(text, line),
+        _ => None,
+    }
 }

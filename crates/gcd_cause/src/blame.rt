@@ -1,7 +1,8 @@
 // What a run waits for, down to the cause.
 
-use crate::naming::{kind_of, kind_words};
+use crate::naming::words_of_act;
 use crate::sight::Sight;
+use crate::waits::{awaited_words, hold_words, registered_words};
 use gcd_plan::{Act, Blk, Obj, Reason, Run, Why};
 use std::alloc::{AllocError, Global};
 
@@ -16,127 +17,72 @@ struct Link {
 }
 
 // The words, which end in the name of the block that is waited for, where there is one.
-fn linked(words: String, next: Option<Blk>) -> Link {
-    Link { words, next }
-}
-
-// The block of a run.
-fn block_of(run: Run) -> Option<Blk> {
-    match run {
-        Run::Block(b) => Some(b),
-        Run::Source(_) => None,
-    }
-}
-
-// Waits for the end of a block.
-fn for_block(alloc: Global, sight: Sight, b: Blk) -> Result<Link, AllocError> {
-    let name = sight.name_of_block(b);
-    Ok(linked(format!(in alloc; "waits for {name}")?, Some(b)))
+fn linked(words: Result<String, AllocError>, next: Option<Blk>) -> Result<Link, AllocError> {
+    let words = words?;
+    Ok(Link { words, next })
 }
 
 // That no block but perhaps the one that waits has the act left, in words.
-fn none_left(
-    alloc: Global,
-    sight: Sight,
-    act: Act,
-    step: &str,
-    b: Blk,
-) -> Result<String, AllocError> {
+fn none_left(alloc: Global, sight: Sight, act: Act, b: Blk) -> Result<String, AllocError> {
+    let (step, _) = words_of_act(act);
     if sight.has_left(b, act) {
-        let name = sight.name_of_block(b);
-        return format!(in alloc; "only {name} itself has a {step} left");
+        return format!(in alloc; "only {} itself has a {step} left", sight.name_of_block(b));
     }
     format!(in alloc; "no {step} is left to come")
 }
 
-// Waits for a moment at which the group is empty.
-fn for_group(alloc: Global, sight: Sight, g: Obj, b: Blk) -> Result<Link, AllocError> {
-    let name = sight.name_of_object(g);
-    let now = sight.scene.object(g);
-    let count = now.enters.saturating_add(now.members);
-    if let Some(member) = sight.member(g) {
-        let block = sight.name_of_block(member);
-        let words = format!(in alloc;
-            "waits for group {name}, which counts {count}, and so for {block}"
-        )?;
-        return Ok(linked(words, Some(member)));
-    }
-    if let Some(leaver) = sight.left_to(Act::Leave(g), b) {
-        let block = sight.name_of_block(leaver);
-        let words = format!(in alloc;
-            "waits for group {name}, which counts {count}, and so for a leave by {block}"
-        )?;
-        return Ok(linked(words, Some(leaver)));
-    }
-    let left = none_left(alloc, sight, Act::Leave(g), "leave", b)?;
-    let words = format!(in alloc; "waits for group {name}, which counts {count}: {left}")?;
-    Ok(linked(words, None))
-}
-
-// Waits for the ends of all blocks of a strip.
-fn for_strip(alloc: Global, sight: Sight, a: u32) -> Result<Link, AllocError> {
-    let name = sight.name_of_strip(a);
-    let (next, left) = sight.left_of_strip(a);
-    match next {
-        Some(b) => {
-            let block = sight.name_of_block(b);
-            let words = format!(in alloc;
-                "waits for strip {name} ({left} of its blocks not ended), and so for {block}"
-            )?;
-            Ok(linked(words, Some(b)))
-        }
-        None => Ok(linked(format!(in alloc; "waits for strip {name}")?, None)),
+// The block that may still bring what the parked one waits for, and the words before its name.
+fn bringer(sight: Sight, reason: Reason, b: Blk) -> (&'static str, Option<Blk>) {
+    match reason {
+        Reason::Block(other) => ("", Some(other)),
+        Reason::Strip(a) => ("", sight.left_of_strip(a).0),
+        Reason::Rank(s, _) => ("a signal by ", sight.signaller(s, b)),
+        Reason::Group(g, _) => match sight.member(g) {
+            Some(member) => ("", Some(member)),
+            None => ("a leave by ", sight.left_to(Act::Leave(g), b)),
+        },
     }
 }
 
-// Waits for its turn at a semaphore.
-fn for_semaphore(alloc: Global, sight: Sight, s: Obj, b: Blk) -> Result<Link, AllocError> {
-    let name = sight.name_of_object(s);
-    if let Some(signaller) = sight.signaller(s, b) {
-        let block = sight.name_of_block(signaller);
-        let words = format!(in alloc;
-            "waits for semaphore {name}, and so for a signal by {block}"
-        )?;
-        return Ok(linked(words, Some(signaller)));
-    }
-    let now = sight.scene.object(s);
-    let (first, signals, waits) = (sight.first_value(s), now.signals, now.waits);
-    let left = none_left(alloc, sight, Act::Signal(s), "signal", b)?;
-    let words = format!(in alloc;
+// Waits for its turn at a semaphore that no other block signals.
+fn for_nobody(alloc: Global, sight: Sight, s: Obj, b: Blk) -> Result<String, AllocError> {
+    let (name, first, now) = (
+        sight.name_of_object(s),
+        sight.first_value(s),
+        sight.scene.object(s),
+    );
+    let (signals, waits) = (now.signals, now.waits);
+    let left = none_left(alloc, sight, Act::Signal(s), b)?;
+    format!(in alloc;
         "waits for semaphore {name}: first value {first}, signals {signals}, waits {waits}, and {left}"
-    )?;
-    Ok(linked(words, None))
+    )
 }
 
 // What the block, which is parked, waits for.
 fn parked(alloc: Global, sight: Sight, reason: Reason, b: Blk) -> Result<Link, AllocError> {
-    match reason {
-        Reason::Block(other) => for_block(alloc, sight, other),
-        Reason::Group(g, _) => for_group(alloc, sight, g, b),
-        Reason::Strip(a) => for_strip(alloc, sight, a),
-        Reason::Rank(s, _) => for_semaphore(alloc, sight, s, b),
-    }
-}
-
-/// What holds an object: that it is inactive, suspended or under way to another target.
-pub fn hold_words(alloc: Global, sight: Sight, o: Obj) -> Result<String, AllocError> {
-    let name = sight.name_of_object(o);
-    let kind = kind_words(kind_of(sight.plan, o));
-    let now = sight.scene.object(o);
-    if !now.is_active {
-        return format!(in alloc; "the {kind} {name} is inactive");
-    }
-    let holds = now.holds;
-    if holds > 0 {
-        return format!(in alloc; "the {kind} {name} is suspended (hold {holds})");
-    }
-    match now.coming {
-        Some(target) => {
-            let target = sight.name_of_object(target);
-            format!(in alloc; "the {kind} {name} is under way to its new target {target}")
+    let (how, next) = bringer(sight, reason, b);
+    let block = sight.name_of_block(next.unwrap_or(b));
+    let words = match reason {
+        Reason::Block(_) => format!(in alloc; "waits for {block}"),
+        Reason::Rank(s, _) if next.is_none() => for_nobody(alloc, sight, s, b),
+        Reason::Rank(s, _) => {
+            let name = sight.name_of_object(s);
+            format!(in alloc; "waits for semaphore {name}, and so for {how}{block}")
         }
-        None => format!(in alloc; "the {kind} {name} is not free"),
-    }
+        Reason::Strip(a) if next.is_none() => {
+            format!(in alloc; "waits for strip {}", sight.name_of_strip(a))
+        }
+        Reason::Group(g, _) if next.is_none() => {
+            let what = awaited_words(alloc, sight, reason)?;
+            let left = none_left(alloc, sight, Act::Leave(g), b)?;
+            format!(in alloc; "waits for {what}: {left}")
+        }
+        Reason::Strip(_) | Reason::Group(..) => {
+            let what = awaited_words(alloc, sight, reason)?;
+            format!(in alloc; "waits for {what}, and so for {how}{block}")
+        }
+    };
+    linked(words, next)
 }
 
 // The block that has the act left: another than the one that waits, if there is one.
@@ -150,79 +96,81 @@ fn maker(sight: Sight, act: Act, b: Blk) -> Option<Blk> {
 // What would free the object for the block, which waits: a step of a block, in words that end in its name.
 fn freeing(sight: Sight, o: Obj, b: Blk) -> Option<(&'static str, Blk)> {
     let now = sight.scene.object(o);
-    if now.holds > 0 {
-        return Some(("a resume by", maker(sight, Act::Resume(o), b)?));
+    if now.holds == 0 && now.is_active {
+        return Some(("the end of", sight.open_on(o)?));
     }
-    if !now.is_active {
-        return match maker(sight, Act::Activate(o), b) {
-            Some(by) => Some(("an activate by", by)),
-            None => Some(("a resume by", maker(sight, Act::Resume(o), b)?)),
-        };
+    if now.holds == 0 {
+        if let Some(by) = maker(sight, Act::Activate(o), b) {
+            return Some(("an activate by", by));
+        }
     }
-    Some(("the end of", sight.open_on(o)?))
+    Some(("a resume by", maker(sight, Act::Resume(o), b)?))
 }
 
 // Waits on a node of which an object of the chain is not free.
 fn not_free(alloc: Global, sight: Sight, node: Obj, b: Blk) -> Result<Link, AllocError> {
     let name = sight.name_of_object(node);
     let Some(held) = sight.held(node) else {
-        return Ok(linked(
-            format!(in alloc; "waits on {name}, which is not free")?,
+        return linked(
+            format!(in alloc; "waits on {name}, which is not free"),
             None,
-        ));
+        );
     };
     let hold = hold_words(alloc, sight, held)?;
-    match freeing(sight, held, b) {
-        Some((step, by)) => {
-            let block = sight.name_of_block(by);
-            let words = format!(in alloc; "waits on {name}: {hold} until {step} {block}")?;
-            Ok(linked(words, Some(by)))
-        }
-        None => Ok(linked(format!(in alloc; "waits on {name}: {hold}")?, None)),
-    }
+    let Some((step, by)) = freeing(sight, held, b) else {
+        return linked(format!(in alloc; "waits on {name}: {hold}"), None);
+    };
+    let block = sight.name_of_block(by);
+    let words = format!(in alloc; "waits on {name}: {hold} until {step} {block}");
+    linked(words, Some(by))
 }
 
 // Waits for the end of a run beneath a serial queue or source.
 fn excluded(alloc: Global, sight: Sight, node: Obj) -> Result<Link, AllocError> {
     let name = sight.name_of_object(node);
     let Some((o, run)) = sight.excluding(node) else {
-        return Ok(linked(format!(in alloc; "waits on {name}, which is taken")?, None));
+        return linked(format!(in alloc; "waits on {name}, which is taken"), None);
     };
-    let kind = kind_words(kind_of(sight.plan, o));
-    let (object, other) = (sight.name_of_object(o), sight.name_of(run));
-    let words = format!(in alloc; "waits at the {kind} {object} for the end of {other}")?;
-    Ok(linked(words, block_of(run)))
+    let (kind, object, other) = (
+        sight.kind_of(o),
+        sight.name_of_object(o),
+        sight.name_of(run),
+    );
+    let next = match run {
+        Run::Block(b) => Some(b),
+        Run::Source(_) => None,
+    };
+    linked(
+        format!(in alloc; "waits at the {kind} {object} for the end of {other}"),
+        next,
+    )
 }
 
 // Waits for the end of a run on its concurrent queue.
 fn fenced(alloc: Global, sight: Sight, node: Obj) -> Result<Link, AllocError> {
-    let name = sight.name_of_object(node);
-    let Some(other) = sight.open_on(node) else {
-        return Ok(linked(format!(in alloc; "waits on {name}, which is fenced")?, None));
+    let (name, next) = (sight.name_of_object(node), sight.open_on(node));
+    let Some(other) = next else {
+        return linked(format!(in alloc; "waits on {name}, which is fenced"), None);
     };
     let block = sight.name_of_block(other);
-    let what = if sight.scene.block(other).is_barrier {
-        "the barrier "
-    } else {
-        ""
-    };
+    let is_barrier = sight.scene.block(other).is_barrier;
+    let what = if is_barrier { "the barrier " } else { "" };
     let words = format!(in alloc;
         "waits on the concurrent queue {name} for the end of {what}{block}"
-    )?;
-    Ok(linked(words, Some(other)))
+    );
+    linked(words, next)
 }
 
 // Waits for an earlier block of its node.
 fn behind(alloc: Global, sight: Sight, node: Obj) -> Result<Link, AllocError> {
-    let name = sight.name_of_object(node);
-    let Some(first) = sight.first_waiting(node) else {
-        return Ok(linked(format!(in alloc; "waits on {name}")?, None));
-    };
-    let block = sight.name_of_block(first);
-    Ok(linked(
-        format!(in alloc; "waits on {name} behind {block}")?,
-        Some(first),
-    ))
+    let (name, next) = (sight.name_of_object(node), sight.first_waiting(node));
+    match next {
+        Some(first) => {
+            let block = sight.name_of_block(first);
+            linked(format!(in alloc; "waits on {name} behind {block}"), next)
+        }
+        None => linked(format!(in alloc; "waits on {name}"), None),
+    }
 }
 
 // What a block that is submitted and has not started waits for.
@@ -235,28 +183,25 @@ fn unstarted(alloc: Global, sight: Sight, b: Blk) -> Result<Link, AllocError> {
         Some(Why::NotFree) => not_free(alloc, sight, node, b),
         Some(Why::Excluded) => excluded(alloc, sight, node),
         Some(Why::Fenced) => fenced(alloc, sight, node),
-        _ => Ok(linked(String::from_str(alloc, "may start")?, None)),
+        _ => linked(String::from_str(alloc, "may start"), None),
     }
 }
 
 // What a block that is not submitted waits for.
 fn not_submitted(alloc: Global, sight: Sight, b: Blk) -> Result<Link, AllocError> {
     if b.0 == 0 {
-        return Ok(linked(String::from_str(alloc, "may start")?, None));
+        return linked(String::from_str(alloc, "may start"), None);
     }
-    if let Some(g) = sight.scene.block(b).notify {
-        let name = sight.name_of_object(g);
-        let now = sight.scene.object(g);
-        let count = now.enters.saturating_add(now.members);
-        let words = format!(in alloc; "is not submitted: group {name} still counts {count}")?;
-        return Ok(linked(words, None));
-    }
-    if let Some(first) = sight.scene.block(b).after {
+    let now = sight.scene.block(b);
+    if let (None, Some(first)) = (now.notify, now.after) {
         let name = sight.name_of_block(first);
-        let words = format!(in alloc; "is not submitted before the end of {name}")?;
-        return Ok(linked(words, Some(first)));
+        let words = format!(in alloc; "is not submitted before the end of {name}");
+        return linked(words, now.after);
     }
-    Ok(linked(String::from_str(alloc, "is not submitted")?, None))
+    match registered_words(alloc, sight, b)? {
+        Some(delay) => linked(format!(in alloc; "is not submitted: {delay}"), None),
+        None => linked(String::from_str(alloc, "is not submitted"), None),
+    }
 }
 
 // What a block waits for.
@@ -265,10 +210,10 @@ fn cause(alloc: Global, sight: Sight, b: Blk) -> Result<Link, AllocError> {
         return parked(alloc, sight, reason, b);
     }
     if sight.is_ended(b) {
-        return Ok(linked(String::from_str(alloc, "has ended")?, None));
+        return linked(String::from_str(alloc, "has ended"), None);
     }
     if sight.is_started(b) {
-        return Ok(linked(String::from_str(alloc, "is open")?, None));
+        return linked(String::from_str(alloc, "is open"), None);
     }
     unstarted(alloc, sight, b)
 }
@@ -284,21 +229,12 @@ enum End {
     Later,
 }
 
-// Blocks of which each waits for the next, and what is said of each.
-#[derive(Drop)]
-struct Chain {
-    blocks: Vec<Blk>,
-    words: Vec<String>,
-    end: End,
-}
-
-// The place of the block among those.
-fn place_in(blocks: &[Blk], b: Blk) -> Option<usize> {
-    blocks.iter().position(|other| *other == b)
-}
-
-// The chain that begins with the block.
-fn chain_from(alloc: Global, sight: Sight, b: Blk) -> Result<Chain, AllocError> {
+// The blocks from this one on of which each waits for the next, what is said of each, and where they end.
+fn chain_from(
+    alloc: Global,
+    sight: Sight,
+    b: Blk,
+) -> Result<(Vec<Blk>, Vec<String>, End), AllocError> {
     let (mut blocks, mut words) = (Vec::new(alloc), Vec::new(alloc));
     let (mut end, mut next) = (End::Later, Some(b));
     for _ in 0..=MAX_LINKS {
@@ -306,7 +242,7 @@ fn chain_from(alloc: Global, sight: Sight, b: Blk) -> Result<Chain, AllocError> 
             end = End::Cause;
             break;
         };
-        if let Some(place) = place_in(&blocks, block) {
+        if let Some(place) = blocks.iter().position(|other| *other == block) {
             end = End::Cycle(place);
             break;
         }
@@ -318,19 +254,7 @@ fn chain_from(alloc: Global, sight: Sight, b: Blk) -> Result<Chain, AllocError> 
         words.push(link.words)?;
         next = link.next;
     }
-    Ok(Chain { blocks, words, end })
-}
-
-// The first so many words, each after the first as what is said of the block before it.
-fn joined(alloc: Global, name: &str, words: &[String], count: usize) -> Result<String, AllocError> {
-    let mut said = format!(in alloc; "{name} ")?;
-    for (at, part) in words.iter().take(count).enumerate() {
-        if at > 0 {
-            said.push_str(", which ")?;
-        }
-        said.push_str(part.as_str())?;
-    }
-    Ok(said)
+    Ok((blocks, words, end))
 }
 
 // Whether a sentence of its own tells what the block waits for: it is parked, or submitted and not started.
@@ -359,18 +283,18 @@ impl Blame {
     /// cycle that was told. Of a block that only leads to a cycle it says so, since a block of the cycle tells the cycle itself. It
     /// tells at most 16 runs. An `Err` comes only where memory runs out.
     pub fn chain(&mut self, sight: Sight, b: Blk) -> Result<Option<String>, AllocError> {
-        if place_in(&self.told, b).is_some() {
+        if self.told.contains(&b) {
             return Ok(None);
         }
-        let Chain { blocks, words, end } = chain_from(self.alloc, sight, b)?;
+        let (blocks, words, end) = chain_from(self.alloc, sight, b)?;
         let (count, tail) = match end {
             End::Cause => (words.len(), ""),
             End::Later => (words.len(), ", .."),
             End::Cycle(place) => self.around(sight, &blocks, place)?,
         };
-        let mut said = joined(self.alloc, sight.name_of_block(b), &words, count)?;
-        said.push_str(tail)?;
-        Ok(Some(said))
+        let first = words.get(..count).unwrap_or(&[]);
+        let (name, said) = (sight.name_of_block(b), first.join(self.alloc, ", which ")?);
+        Ok(Some(format!(in self.alloc; "{name} {said}{tail}")?))
     }
 
     // Of blocks that end in a cycle from this place on: of how many to tell, and what follows.
@@ -382,8 +306,9 @@ impl Blame {
     ) -> Result<(usize, &'static str), AllocError> {
         let members = blocks.get(place..).unwrap_or(&[]);
         let told = self.told.as_slice();
-        let is_elsewhere = members.iter().any(|member| is_told(sight, *member)
-            || place_in(told, *member).is_some());
+        let is_elsewhere = members
+            .iter()
+            .any(|member| is_told(sight, *member) || told.contains(member));
         if place > 0 && is_elsewhere {
             return Ok((place, ", which is in a cycle"));
         }

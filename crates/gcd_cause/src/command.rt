@@ -1,6 +1,6 @@
 // Why words name no command.
 
-use crate::pick::{is_among, pick};
+use crate::pick::pick;
 use crate::shown::{Shown, write_quoted};
 use gcd_plan::{MAX_BLOCKS, MAX_EVENTS, MAX_WORKERS};
 use std::fmt;
@@ -15,30 +15,20 @@ pub enum WordsCause<'a> {
     /// There is no word.
     NoWord,
     /// The first word is none of the commands.
-    UnknownCommand {
-        word: &'a str,
-    },
+    UnknownCommand(&'a str),
     /// An option stands before the command.
-    EarlyOption {
-        word: &'a str,
-    },
+    EarlyOption(&'a str),
     /// The command has no such option.
     UnknownOption {
         command: &'a str,
         word: &'a str,
     },
     /// The option stands twice.
-    Twice {
-        word: &'a str,
-    },
+    Twice(&'a str),
     /// The option takes a value, and none follows.
-    NoValue {
-        word: &'a str,
-    },
+    NoValue(&'a str),
     /// The option takes no value.
-    WithValue {
-        word: &'a str,
-    },
+    WithValue(&'a str),
     /// The word is no number in the range.
     NoNumber {
         what: &'static str,
@@ -70,37 +60,6 @@ const HELP: &str =
     gcd front SCRIPT SENDERS: runs the script, and so many threads, 1 to 8, send jobs for its intake beside it\n\
     gcd --help, gcd --version: this text; the version";
 
-// A sentence that begins with a word and ends in another.
-fn write_two<W: fmt::Write>(
-    f: &mut fmt::Formatter<W>,
-    first: &str,
-    between: &str,
-    last: &str,
-) -> fmt::Result {
-    let (first, last) = (Shown(first), Shown(last));
-    write!(f, "gcd: '{first}'{between}'{last}'")
-}
-
-// That the word is no number in the range.
-fn write_no_number<W: fmt::Write>(
-    f: &mut fmt::Formatter<W>,
-    word: &str,
-    what: &str,
-    high: u32,
-) -> fmt::Result {
-    let word = Shown(word);
-    write!(f, "gcd: '{word}' is no {what}: a number from 1 to {high}")
-}
-
-// What the command lacks.
-fn write_missing<W: fmt::Write>(
-    f: &mut fmt::Formatter<W>,
-    command: &str,
-    what: &str,
-) -> fmt::Result {
-    write!(f, "gcd: '{command}' lacks its {what}")
-}
-
 const NO_COMMAND: &str = "gcd: no command is named: run, check, big or front";
 
 const UNKNOWN_COMMAND: &str = " is no command: run, check, big or front";
@@ -113,19 +72,28 @@ impl<'a> fmt::Display for WordsCause<'a> {
             WordsCause::Help => f.write_str(HELP),
             WordsCause::Version => f.write_str("gcd 1"),
             WordsCause::NoWord => f.write_str(NO_COMMAND),
-            WordsCause::UnknownCommand { word } => write_quoted(f, "gcd: ", word, UNKNOWN_COMMAND),
-            WordsCause::EarlyOption { word } => write_quoted(f, "gcd: ", word, EARLY_OPTION),
+            WordsCause::UnknownCommand(word) => write_quoted(f, "gcd: ", word, UNKNOWN_COMMAND),
+            WordsCause::EarlyOption(word) => write_quoted(f, "gcd: ", word, EARLY_OPTION),
             WordsCause::UnknownOption { command, word } => {
-                write_two(f, command, " has no option ", word)
+                write!(
+                    f,
+                    "gcd: '{}' has no option '{}'",
+                    Shown(command),
+                    Shown(word)
+                )
             }
-            WordsCause::Twice { word } => write_quoted(f, "gcd: ", word, " stands twice"),
-            WordsCause::NoValue { word } => write_quoted(f, "gcd: no value follows ", word, ""),
-            WordsCause::WithValue { word } => write_quoted(f, "gcd: ", word, " takes no value"),
-            WordsCause::NoNumber { what, word, high } => write_no_number(f, word, what, high),
+            WordsCause::Twice(word) => write_quoted(f, "gcd: ", word, " stands twice"),
+            WordsCause::NoValue(word) => write_quoted(f, "gcd: no value follows ", word, ""),
+            WordsCause::WithValue(word) => write_quoted(f, "gcd: ", word, " takes no value"),
+            WordsCause::NoNumber { what, word, high } => {
+                let word = Shown(word);
+                write!(f, "gcd: '{word}' is no {what}: a number from 1 to {high}")
+            }
             WordsCause::TooMany { command, word } => {
-                write_two(f, word, " is one word too many after ", command)
+                let (word, command) = (Shown(word), Shown(command));
+                write!(f, "gcd: '{word}' is one word too many after '{command}'")
             }
-            WordsCause::Missing { command, what } => write_missing(f, command, what),
+            WordsCause::Missing { command, what } => write!(f, "gcd: '{command}' lacks its {what}"),
             WordsCause::Unclear => f.write_str("gcd: the words name no command"),
         }
     }
@@ -134,115 +102,58 @@ impl<'a> fmt::Display for WordsCause<'a> {
 // The most senders of jobs beside a run.
 const MAX_FRONT_SENDERS: u32 = 8;
 
-// A command's words: what it takes beside options, and how many of the options it has, of the first.
+// What a word must be: nothing at all, any text, or a number of what it counts, from 1 to the greatest.
 #[derive(Clone, Copy)]
-struct Command {
-    name: &'static str,
-    takes: [&'static str; 2],
-    count: usize,
-    options: usize,
+enum Value {
+    Nothing,
+    Text,
+    Number(&'static str, u32),
 }
 
-static COMMANDS: [Command; 4] = [
-    Command {
-        name: "run",
-        takes: ["SCRIPT", ""],
-        count: 1,
-        options: 4,
-    },
-    Command {
-        name: "check",
-        takes: ["SCRIPT", "JOURNAL"],
-        count: 2,
-        options: 0,
-    },
-    Command {
-        name: "big",
-        takes: ["N", ""],
-        count: 1,
-        options: 1,
-    },
-    Command {
-        name: "front",
-        takes: ["SCRIPT", "SENDERS"],
-        count: 2,
-        options: 0,
-    },
-];
-
-fn commands() -> &'static [Command] {
-    &COMMANDS
-}
-
-fn command_of(word: &str) -> Option<&'static Command> {
-    for command in commands() {
-        if command.name == word {
-            return Some(command);
+impl Value {
+    // What is at fault with the word, if anything is. A number is one as the reader of the words takes it.
+    fn check<'a>(self, word: &'a str) -> Result<(), WordsCause<'a>> {
+        let Value::Number(what, high) = self else {
+            return Ok(());
+        };
+        match word.parse::<u32>() {
+            Ok(number) if 1 <= number && number <= high => Ok(()),
+            _ => Err(WordsCause::NoNumber { what, word, high }),
         }
     }
-    None
 }
 
-// The options, each with its place.
-static OPTIONS: [(&str, usize); 4] = [
-    ("--workers", 0),
-    ("--journal", 1),
-    ("--most", 2),
-    ("--listen", 3),
+const SCRIPT: (&str, Value) = ("SCRIPT", Value::Text);
+
+const JOURNAL: (&str, Value) = ("JOURNAL", Value::Text);
+
+const BLOCKS: (&str, Value) = ("N", Value::Number("number of blocks", MAX_BLOCKS - 1));
+
+const SENDERS: (&str, Value) = (
+    "SENDERS",
+    Value::Number("number of senders", MAX_FRONT_SENDERS),
+);
+
+// What a command takes beside options, and how many of the options it has, of the first.
+type Command = (&'static [(&'static str, Value)], usize);
+
+static COMMANDS: [(&str, Command); 4] = [
+    ("run", (&[SCRIPT], 4)),
+    ("check", (&[SCRIPT, JOURNAL], 0)),
+    ("big", (&[BLOCKS], 1)),
+    ("front", (&[SCRIPT, SENDERS], 0)),
 ];
 
-// The place of an option that the command has; None if it has no such option.
-fn place_of(known: &Command, option: &str) -> Option<usize> {
-    match pick(&OPTIONS, option) {
-        Some(place) if place < known.options => Some(place),
-        _ => None,
-    }
-}
-
-// Whether one of the words is among those.
-fn has_one_of(words: &[&str], sought: &[&str]) -> bool {
-    for word in words {
-        if is_among(sought, *word) {
-            return true;
-        }
-    }
-    false
-}
-
-static HELP_WORDS: [&str; 2] = ["--help", "-h"];
-
-static VERSION_WORDS: [&str; 2] = ["--version", "-V"];
-
-// Whether the words call for help.
-fn is_for_help(words: &[&str]) -> bool {
-    let starts = match words.first() {
-        Some(word) => *word == "help",
-        None => false,
-    };
-    starts || has_one_of(words, &HELP_WORDS)
-}
-
-// Whether the text is a number from 1 to `high`, as the reader of the words takes it.
-fn is_number(text: &str, high: u32) -> bool {
-    match text.parse::<u32>() {
-        Ok(number) => 1 <= number && number <= high,
-        Err(_) => false,
-    }
-}
-
-// The options whose value is a number: what it counts, and the greatest.
-static NUMBERS: [(&str, (&str, u32)); 2] = [
-    ("--workers", ("number of workers", MAX_WORKERS)),
-    ("--most", ("number of events", MAX_EVENTS)),
+// The options, each with its place and its value.
+static OPTIONS: [(&str, (usize, Value)); 4] = [
+    (
+        "--workers",
+        (0, Value::Number("number of workers", MAX_WORKERS)),
+    ),
+    ("--journal", (1, Value::Nothing)),
+    ("--most", (2, Value::Number("number of events", MAX_EVENTS))),
+    ("--listen", (3, Value::Text)),
 ];
-
-// What is at fault with the value of an option.
-fn bad_value<'a>(option: &str, value: &'a str) -> Option<WordsCause<'a>> {
-    match pick(&NUMBERS, option) {
-        Some((what, high)) => bad_number(what, value, high),
-        None => None,
-    }
-}
 
 // Whether the word is a number below zero.
 fn is_below_zero(word: &str) -> bool {
@@ -252,20 +163,13 @@ fn is_below_zero(word: &str) -> bool {
     }
 }
 
-// What is at fault with a word that must be a number from 1 to `high`.
-fn bad_number<'a>(what: &'static str, word: &'a str, high: u32) -> Option<WordsCause<'a>> {
-    if is_number(word, high) {
-        return None;
-    }
-    Some(WordsCause::NoNumber { what, word, high })
-}
-
 // The words after the command, as far as they are read.
 #[derive(Clone, Copy)]
 struct Reading<'a> {
     command: &'a str,
+    known: Command,
     taken: usize,
-    owed: Option<&'a str>,
+    owed: Option<(&'a str, Value)>,
     has: [bool; 4],
 }
 
@@ -279,117 +183,98 @@ impl<'a> Reading<'a> {
     }
 
     // An option, with what stands after its `=`.
-    fn option(
-        &mut self,
-        known: &Command,
-        option: &'a str,
-        value: Option<&'a str>,
-    ) -> Option<WordsCause<'a>> {
-        let Some(place) = place_of(known, option) else {
-            return Some(WordsCause::UnknownOption {
-                command: self.command,
-                word: option,
-            });
+    fn option(&mut self, word: &'a str, after: Option<&'a str>) -> Result<(), WordsCause<'a>> {
+        let command = self.command;
+        let (place, value) = match pick(&OPTIONS, word) {
+            Some(found) if found.0 < self.known.1 => found,
+            _ => return Err(WordsCause::UnknownOption { command, word }),
         };
         if !self.notes(place) {
-            return Some(WordsCause::Twice { word: option });
+            return Err(WordsCause::Twice(word));
         }
-        match value {
-            Some(_) if option == "--journal" => Some(WordsCause::WithValue { word: option }),
-            Some(value) => bad_value(option, value),
-            None if option == "--journal" => None,
-            None => {
-                self.owed = Some(option);
-                None
+        match (value, after) {
+            (Value::Nothing, Some(_)) => Err(WordsCause::WithValue(word)),
+            (Value::Nothing, None) => Ok(()),
+            (_, Some(after)) => value.check(after),
+            (_, None) => {
+                self.owed = Some((word, value));
+                Ok(())
             }
         }
     }
 
     // A word that is no option.
-    fn plain(&mut self, known: &Command, word: &'a str) -> Option<WordsCause<'a>> {
-        if self.taken >= known.count {
-            return Some(WordsCause::TooMany {
-                command: self.command,
-                word,
-            });
-        }
+    fn plain(&mut self, word: &'a str) -> Result<(), WordsCause<'a>> {
+        let command = self.command;
+        let Some((_, value)) = self.known.0.get(self.taken) else {
+            return Err(WordsCause::TooMany { command, word });
+        };
         self.taken = self.taken.saturating_add(1);
-        if self.command == "big" {
-            return bad_number("number of blocks", word, MAX_BLOCKS - 1);
-        }
-        if self.command == "front" && self.taken == 2 {
-            return bad_number("number of senders", word, MAX_FRONT_SENDERS);
-        }
-        None
+        value.check(word)
     }
 
     // One word more.
-    fn take(&mut self, known: &Command, word: &'a str) -> Option<WordsCause<'a>> {
-        if let Some(option) = self.owed {
-            let below = bad_value(option, word);
-            if word.starts_with('-') && !(is_below_zero(word) && below.is_some()) {
-                return Some(WordsCause::NoValue { word: option });
+    fn take(&mut self, word: &'a str) -> Result<(), WordsCause<'a>> {
+        if let Some((option, value)) = self.owed {
+            let checked = value.check(word);
+            if word.starts_with('-') && !(is_below_zero(word) && checked.is_err()) {
+                return Err(WordsCause::NoValue(option));
             }
             self.owed = None;
-            return below;
+            return checked;
         }
         if !word.starts_with('-') {
-            return self.plain(known, word);
+            return self.plain(word);
         }
         match word.split_once('=') {
-            Some((option, value)) => self.option(known, option, Some(value)),
-            None => self.option(known, word, None),
+            Some((option, value)) => self.option(option, Some(value)),
+            None => self.option(word, None),
         }
     }
-}
 
-// What is at fault after the words of a command.
-fn after_all<'a>(reading: Reading<'a>, known: &Command) -> WordsCause<'a> {
-    if let Some(word) = reading.owed {
-        return WordsCause::NoValue { word };
-    }
-    match known.takes.get(reading.taken) {
-        Some(what) if reading.taken < known.count => WordsCause::Missing {
-            command: reading.command,
-            what: *what,
-        },
-        _ => WordsCause::Unclear,
-    }
-}
-
-// What is at fault with the words after a command.
-fn read<'a>(known: &Command, command: &'a str, after: &[&'a str]) -> WordsCause<'a> {
-    let mut reading = Reading {
-        command,
-        taken: 0,
-        owed: None,
-        has: [false; 4],
-    };
-    for word in after {
-        if let Some(cause) = reading.take(known, *word) {
-            return cause;
+    // All words after the command.
+    fn take_all(&mut self, words: &[&'a str]) -> Result<(), WordsCause<'a>> {
+        for word in words {
+            self.take(*word)?;
+        }
+        if let Some((option, _)) = self.owed {
+            return Err(WordsCause::NoValue(option));
+        }
+        let command = self.command;
+        match self.known.0.get(self.taken).copied() {
+            Some((what, _)) => Err(WordsCause::Missing { command, what }),
+            None => Ok(()),
         }
     }
-    after_all(reading, known)
 }
 
 /// Why the words after the program's name name no command, where they name none: the first word at fault. A call for help or for
 /// the version is one too.
 pub fn why_words<'a>(words: &[&'a str]) -> WordsCause<'a> {
-    if is_for_help(words) {
-        return WordsCause::Help;
-    }
-    if has_one_of(words, &VERSION_WORDS) {
-        return WordsCause::Version;
-    }
     let Some((command, after)) = words.split_first() else {
         return WordsCause::NoWord;
     };
-    if command.starts_with('-') {
-        return WordsCause::EarlyOption { word: *command };
+    if *command == "help" || words.contains(&"--help") || words.contains(&"-h") {
+        return WordsCause::Help;
     }
-    let Some(known) = command_of(*command) else {
-        return WordsCause::UnknownCommand { word: *command };
+    if words.contains(&"--version") || words.contains(&"-V") {
+        return WordsCause::Version;
+    }
+    if command.starts_with('-') {
+        return WordsCause::EarlyOption(*command);
+    }
+    let Some(known) = pick(&COMMANDS, *command) else {
+        return WordsCause::UnknownCommand(*command);
     };
-    read(known, *command, after)
+    let mut reading = Reading {
+        command: *command,
+        known,
+        taken: 0,
+        owed: None,
+        has: [false; 4],
+    };
+    match reading.take_all(after) {
+        Ok(()) => WordsCause::Unclear,
+        Err(cause) => cause,
+    }
 }

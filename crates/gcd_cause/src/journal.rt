@@ -79,18 +79,7 @@ fn expected_words(field: Field) -> &'static str {
     }
 }
 
-// That the journal has one event more than it may have.
-fn write_too_many<W: fmt::Write>(f: &mut fmt::Formatter<W>, most: u32) -> fmt::Result {
-    let plural = if most == 1 { "" } else { "s" };
-    write!(f, "a journal has at most {most} event{plural}")
-}
-
 impl<'a> JournalWords<'a> {
-    // How many events are before the line.
-    fn events(&self) -> u32 {
-        self.number.saturating_sub(1)
-    }
-
     // Why the fields of the line are no event's.
     fn write_form<W: fmt::Write>(&self, f: &mut fmt::Formatter<W>, line: &str) -> fmt::Result {
         let first = line.split(' ').next().unwrap_or("");
@@ -98,7 +87,7 @@ impl<'a> JournalWords<'a> {
             return write_quoted(f, "no line of a journal begins with ", first, "");
         };
         if first == "events" && line.split(' ').count() == 2 {
-            let (events, line) = (self.events(), Word(line));
+            let (events, line) = (self.number.saturating_sub(1), Word(line));
             return write!(f, "expected 'events {events}', found '{line}'");
         }
         write!(
@@ -117,7 +106,10 @@ impl<'a> JournalWords<'a> {
                 let word = line.split(' ').nth((place as usize).saturating_sub(1));
                 write_expected(f, expected_words(expected), word.unwrap_or(""), place)
             }
-            JournalCause::TooMany => write_too_many(f, self.most),
+            JournalCause::TooMany => {
+                let (most, plural) = (self.most, if self.most == 1 { "" } else { "s" });
+                write!(f, "a journal has at most {most} event{plural}")
+            }
             JournalCause::NoForm | JournalCause::NoEnd => self.write_form(f, line),
         }
     }
@@ -129,7 +121,7 @@ impl<'a> fmt::Display for JournalWords<'a> {
             return f.write_str("the journal has more than 16777216 bytes");
         }
         if self.rest.is_empty() {
-            let events = self.events();
+            let events = self.number.saturating_sub(1);
             return write!(
                 f,
                 "the journal ends, and no line 'events {events}' stands after its events"

@@ -6,8 +6,9 @@
 //! | [`cause_of_script`], [`cause_of_journal`], [`why_words`] | the cause at a line of a script or a journal, or among the words of a command line |
 //! | [`in_the_way`] | what is in the way of an event that may not come |
 //! | [`Blame`], [`hold_words`], [`misuse_words`] | what each block waits for, down to the cause; what holds an object; the rule that an act breaks |
+//! | [`registered_words`] | why a block that an act has registered is not submitted |
 //! | [`Places`] | on which line of a script an act, a block or an object stands |
-//! | [`ActWords`], [`EventWords`], [`why_name`], [`code_name`] | acts and events as scripts and journals write them, reasons and codes by their names |
+//! | [`ActWords`], [`EventWords`], [`code_name`] | acts and events as scripts and journals write them, codes by their names |
 //! | [`Shown`] | a word of a caller's, as a sentence shows it |
 //!
 //! So that words can name what is in the way, a [`Scene`] follows the events beside the machine, and a [`Sight`] is both at one place;
@@ -18,7 +19,6 @@
 #![tactic(auto)]
 
 mod another;
-mod barred;
 mod blame;
 mod command;
 mod journal;
@@ -33,16 +33,17 @@ mod script;
 mod shapes;
 mod shown;
 mod sight;
+mod waits;
 
-pub use barred::Barred;
-pub use blame::{Blame, hold_words};
+pub use blame::Blame;
 pub use command::{WordsCause, why_words};
 pub use journal::{JournalWords, cause_of_journal};
 pub use misuses::{code_name, misuse_words};
-pub use naming::{ActWords, EventWords, act_at, kind_of, why_name};
+pub use naming::{ActWords, EventWords, act_at, kind_of};
 pub use places::Places;
 pub use reasons::in_the_way;
 pub use scene::{BlockNow, Place, Scene};
 pub use script::{ScriptCause, cause_of_script};
 pub use shown::Shown;
 pub use sight::Sight;
+pub use waits::{hold_words, registered_words};

@@ -4,39 +4,37 @@ ghost use Rattle.std.specs.Iterator.{at_most};
 
 use gcd_text::{MAX_WORDS, first_word, next_line, printable, words};
 
-/// The lines of a text, from the first on, each without its end.
+/// The lines of a text, from the first on: each with its number, from 1, and without its end.
 #[derive(Drop)]
-pub struct Lines<'a>(&'a [u8]);
+pub struct Lines<'a> {
+    rest: &'a [u8],
+    number: u32,
+}
 
 impl<'a> Lines<'a> {
     /// All lines of the text.
-    pub fn of(text: &'a [u8]) -> Lines<'a> {
-        Lines(text)
+    pub fn of(rest: &'a [u8]) -> Lines<'a> {
+        Lines { rest, number: 0 }
     }
 }
 
 impl<'a> Iterator for Lines<'a> {
-    type Item = &'a [u8];
+    type Item = (u32, &'a [u8]);
 
-    ghost remaining = { λ s. at_most (length s.0.now) };
+    ghost remaining = { λ s. at_most (length s.rest.now) };
 
-    fn next(&mut self) -> Option<&'a [u8]> {
-        let (line, rest) = next_line(self.0)?;
-        self.0 = rest;
-        Some(line)
+    fn next(&mut self) -> Option<(u32, &'a [u8])> {
+        let (line, rest) = next_line(self.rest)?;
+        self.rest = rest;
+        self.number = self.number.saturating_add(1);
+        Some((self.number, line))
     }
 }
 
-/// The line of this number, from 1; None where the text has fewer.
-pub fn line_at(text: &[u8], number: u32) -> Option<&[u8]> {
-    let mut at = 0u32;
-    for line in Lines::of(text) {
-        at = at.saturating_add(1);
-        if at == number {
-            return Some(line);
-        }
-    }
-    None
+/// The line of this number, from 1; empty where the text has fewer.
+pub fn line_at(text: &[u8], number: u32) -> &[u8] {
+    let found = Lines::of(text).find(|line| line.0 == number);
+    found.map_or(&[], |line| line.1)
 }
 
 /// The words of a line: the first, and those after it. `after` holds the first [`MAX_WORDS`] of them, and `more` says that there
@@ -50,21 +48,13 @@ pub struct Words<'a> {
 }
 
 impl<'a> Words<'a> {
-    // No words after the first.
-    fn none(first: &'a str) -> Words<'a> {
+    /// A word with none after it.
+    pub fn alone(first: &'a str) -> Words<'a> {
         Words {
             first,
             after: [""; MAX_WORDS],
             count: 0,
             more: false,
-        }
-    }
-
-    /// The words of a line; all of them are empty where it has a byte other than 32 to 126, or is skipped.
-    pub fn of_any(line: &'a [u8]) -> Words<'a> {
-        match Words::of(line) {
-            Some(words) => words,
-            None => Words::none(""),
         }
     }
 
@@ -74,27 +64,17 @@ impl<'a> Words<'a> {
         if first.starts_with('#') {
             return None;
         }
-        let mut made = Words::none(first);
-        match words(rest) {
-            Some(found) => {
-                for word in found.as_slice() {
-                    made.push(*word);
-                }
-            }
-            None => {
-                made.count = MAX_WORDS;
-                made.more = true;
-            }
+        let mut made = Words::alone(first);
+        let Some(found) = words(rest) else {
+            made.count = MAX_WORDS;
+            made.more = true;
+            return Some(made);
+        };
+        for (place, word) in made.after.iter_mut().zip(found.as_slice()) {
+            *place = *word;
         }
+        made.count = found.len();
         Some(made)
-    }
-
-    fn push(&mut self, word: &'a str) {
-        let count = self.count;
-        if let Some(place) = self.after.get_mut(count) {
-            *place = word;
-            self.count = count.saturating_add(1);
-        }
     }
 
     /// The word at this place, from 1, the first word; empty where there is none.

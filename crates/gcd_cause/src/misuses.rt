@@ -1,29 +1,14 @@
 // The rules that a misuse breaks, in words.
 
-use crate::naming::{act_at, kind_of, kind_words};
+use crate::naming::{act_at, objects_of};
+use crate::scene::Place;
 use crate::sight::Sight;
-use gcd_plan::{Act, Obj, Run};
+use gcd_plan::{Act, Obj};
 use std::alloc::{AllocError, Global};
 
-// The objects that an act names; twice the same where it names one, and `root`, which is always there, where it names none.
-fn named(act: Act) -> (Obj, Obj) {
-    match act {
-        Act::Async(q, _) | Act::Barrier(q, _) | Act::Sync(q, _) | Act::BarrierSync(q, _) => (q, q),
-        Act::GroupAsync(g, q, _) | Act::Notify(g, q, _) => (g, q),
-        Act::Enter(o) | Act::Leave(o) | Act::GroupWait(o) | Act::GroupWaitFor(o, _) => (o, o),
-        Act::Signal(o) | Act::Wait(o) | Act::WaitFor(o, _) => (o, o),
-        Act::Suspend(o) | Act::Resume(o) | Act::Activate(o) => (o, o),
-        Act::Target(o, t) => (o, t),
-        Act::Merge(o, _) | Act::Cancel(o) => (o, o),
-        Act::Retain(o) | Act::Release(o) => (o, o),
-        Act::Apply(q, _) | Act::NotifyBlock(_, q, _) => (q, q),
-        Act::CancelBlock(_) | Act::WaitBlock(_) => (Obj(0), Obj(0)),
-    }
-}
-
-// The object of the two that has no reference left.
+// The object of an act that has no reference left.
 fn released(sight: Sight, act: Act) -> Obj {
-    let (first, second) = named(act);
+    let (first, second) = objects_of(act);
     if sight.scene.object(first).refs == 0 && first.0 != 0 {
         first
     } else {
@@ -33,9 +18,9 @@ fn released(sight: Sight, act: Act) -> Obj {
 
 // The rule of a code, where it is no released name.
 fn rule_words(alloc: Global, sight: Sight, act: Act, code: u8) -> Result<String, AllocError> {
-    let (first, second) = named(act);
+    let (first, second) = objects_of(act);
     let (name, other) = (sight.name_of_object(first), sight.name_of_object(second));
-    let kind = kind_words(kind_of(sight.plan, first));
+    let (kind, now) = (sight.kind_of(first), sight.scene.object(first));
     match code {
         1 => format!(in alloc; "the {kind} {name} is not suspended"),
         2 => format!(in alloc; "no enter of group {name} is left to answer"),
@@ -48,10 +33,7 @@ fn rule_words(alloc: Global, sight: Sight, act: Act, code: u8) -> Result<String,
             "the {kind} {name} is suspended or inactive, and its last reference may not go"
         ),
         8 => {
-            let (signals, waits) = (
-                sight.scene.object(first).signals,
-                sight.scene.object(first).waits,
-            );
+            let (signals, waits) = (now.signals, now.waits);
             format!(in alloc;
                 "semaphore {name} is below its first value (signals {signals}, waits {waits}), and its last reference may not go"
             )
@@ -60,15 +42,14 @@ fn rule_words(alloc: Global, sight: Sight, act: Act, code: u8) -> Result<String,
     }
 }
 
-/// The rule that the act of the run breaks as the misuse of that code, in words. An `Err` comes only where memory runs out.
+/// The rule that the act at that place breaks as the misuse of that code, in words. An `Err` comes only where memory runs out.
 pub fn misuse_words(
     alloc: Global,
     sight: Sight,
-    run: Run,
-    index: u32,
+    at: Place,
     code: u8,
 ) -> Result<String, AllocError> {
-    let Some(act) = act_at(sight.plan, run, index) else {
+    let Some(act) = act_at(sight.plan, at.run, at.index) else {
         return String::from_str(alloc, "there is no such act");
     };
     if code == 6 {

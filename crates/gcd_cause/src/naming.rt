@@ -1,7 +1,7 @@
 // How objects, runs, acts and events are called.
 
 use gcd_event::Event;
-use gcd_plan::{Act, Blk, Kind, Obj, Plan, Run, Why};
+use gcd_plan::{Act, Blk, Kind, Obj, Plan, Run};
 use std::fmt;
 
 /// The name of an object; `?` where the plan has it not.
@@ -68,30 +68,101 @@ pub fn kind_words(kind: Kind) -> &'static str {
     }
 }
 
-/// The act of a run at an index; None where the plan has it not.
-pub fn act_at(plan: &Plan, run: Run, index: u32) -> Option<Act> {
+// The acts of a run; none where the plan has it not.
+fn acts_of(plan: &Plan, run: Run) -> &[Act] {
     let known = match run {
         Run::Block(b) => b.0 < plan.blocks(),
         Run::Source(s) => s.0 < plan.objects(),
     };
-    if known {
-        plan.acts(run).get(index as usize).copied()
-    } else {
-        None
+    if known { plan.acts(run) } else { &[] }
+}
+
+/// The act of a run at an index; None where the plan has it not.
+pub fn act_at(plan: &Plan, run: Run, index: u32) -> Option<Act> {
+    acts_of(plan, run).get(index as usize).copied()
+}
+
+/// The acts of a run from an index on.
+pub fn acts_from(plan: &Plan, run: Run, index: u32) -> &[Act] {
+    acts_of(plan, run).get(index as usize..).unwrap_or(&[])
+}
+
+/// A word after the first one of an act or an event.
+#[derive(Clone, Copy)]
+pub enum Word {
+    Nothing,
+    Object(Obj),
+    Block(Blk),
+    Strip(u32),
+    Number(u32),
+    Code(u8),
+}
+
+// The first word and the words after it, as the plan names them.
+fn write_words<W: fmt::Write>(
+    f: &mut fmt::Formatter<W>,
+    plan: &Plan,
+    first: &str,
+    words: &[Word],
+) -> fmt::Result {
+    f.write_str(first)?;
+    for word in words {
+        match *word {
+            Word::Nothing => {}
+            Word::Object(o) => write!(f, " {}", object_name(plan, o))?,
+            Word::Block(b) => write!(f, " {}", block_name(plan, b))?,
+            Word::Strip(a) => write!(f, " {}", strip_name(plan, a))?,
+            Word::Number(number) => write!(f, " {number}")?,
+            Word::Code(code) => write!(f, " M{code}")?,
+        }
+    }
+    Ok(())
+}
+
+/// The first word of an act, and the words after it.
+pub fn words_of_act(act: Act) -> (&'static str, [Word; 3]) {
+    use Word::{Block, Nothing, Number, Object, Strip};
+    match act {
+        Act::Async(q, b) => ("async", [Object(q), Block(b), Nothing]),
+        Act::Barrier(q, b) => ("barrier", [Object(q), Block(b), Nothing]),
+        Act::Sync(q, b) => ("sync", [Object(q), Block(b), Nothing]),
+        Act::BarrierSync(q, b) => ("barrier_sync", [Object(q), Block(b), Nothing]),
+        Act::GroupAsync(g, q, b) => ("group_async", [Object(g), Object(q), Block(b)]),
+        Act::Notify(g, q, b) => ("notify", [Object(g), Object(q), Block(b)]),
+        Act::Enter(g) => ("enter", [Object(g), Nothing, Nothing]),
+        Act::Leave(g) => ("leave", [Object(g), Nothing, Nothing]),
+        Act::GroupWait(g) => ("group_wait", [Object(g), Nothing, Nothing]),
+        Act::GroupWaitFor(g, ms) => ("group_wait_for", [Object(g), Number(ms), Nothing]),
+        Act::Signal(s) => ("signal", [Object(s), Nothing, Nothing]),
+        Act::Wait(s) => ("wait", [Object(s), Nothing, Nothing]),
+        Act::WaitFor(s, ms) => ("wait_for", [Object(s), Number(ms), Nothing]),
+        Act::Suspend(o) => ("suspend", [Object(o), Nothing, Nothing]),
+        Act::Resume(o) => ("resume", [Object(o), Nothing, Nothing]),
+        Act::Activate(o) => ("activate", [Object(o), Nothing, Nothing]),
+        Act::Target(o, t) => ("target", [Object(o), Object(t), Nothing]),
+        Act::Merge(s, value) => ("merge", [Object(s), Number(value), Nothing]),
+        Act::Cancel(s) => ("cancel", [Object(s), Nothing, Nothing]),
+        Act::Retain(o) => ("retain", [Object(o), Nothing, Nothing]),
+        Act::Release(o) => ("release", [Object(o), Nothing, Nothing]),
+        Act::Apply(q, a) => ("apply", [Object(q), Strip(a), Nothing]),
+        Act::CancelBlock(b) => ("cancel_block", [Block(b), Nothing, Nothing]),
+        Act::WaitBlock(b) => ("wait_block", [Block(b), Nothing, Nothing]),
+        Act::NotifyBlock(b, q, c) => ("notify_block", [Block(b), Object(q), Block(c)]),
     }
 }
 
-/// How many acts a run has.
-pub fn acts_of(plan: &Plan, run: Run) -> u32 {
-    let known = match run {
-        Run::Block(b) => b.0 < plan.blocks(),
-        Run::Source(s) => s.0 < plan.objects(),
-    };
-    if known {
-        u32::try_from(plan.acts(run).len()).unwrap_or(u32::MAX)
-    } else {
-        0
+/// The first and the last object that an act names; the same where it names one, and `root`, which is always there, where it names none.
+pub fn objects_of(act: Act) -> (Obj, Obj) {
+    let mut found = None;
+    for word in words_of_act(act).1 {
+        if let Word::Object(o) = word {
+            found = match found {
+                Some((first, _)) => Some((first, o)),
+                None => Some((o, o)),
+            };
+        }
     }
+    found.unwrap_or((Obj(0), Obj(0)))
 }
 
 /// An act as a script writes it.
@@ -101,102 +172,23 @@ pub struct ActWords<'a> {
     pub act: Act,
 }
 
-// The first word of an act.
-fn act_word(act: Act) -> &'static str {
-    match act {
-        Act::Async(..) => "async",
-        Act::Barrier(..) => "barrier",
-        Act::Sync(..) => "sync",
-        Act::BarrierSync(..) => "barrier_sync",
-        Act::GroupAsync(..) => "group_async",
-        Act::Notify(..) => "notify",
-        Act::Enter(_) => "enter",
-        Act::Leave(_) => "leave",
-        Act::GroupWait(_) => "group_wait",
-        Act::GroupWaitFor(..) => "group_wait_for",
-        Act::Signal(_) => "signal",
-        Act::Wait(_) => "wait",
-        Act::WaitFor(..) => "wait_for",
-        Act::Suspend(_) => "suspend",
-        Act::Resume(_) => "resume",
-        Act::Activate(_) => "activate",
-        Act::Target(..) => "target",
-        Act::Merge(..) => "merge",
-        Act::Cancel(_) => "cancel",
-        Act::Retain(_) => "retain",
-        Act::Release(_) => "release",
-        Act::Apply(..) => "apply",
-        Act::CancelBlock(_) => "cancel_block",
-        Act::WaitBlock(_) => "wait_block",
-        Act::NotifyBlock(..) => "notify_block",
+impl<'a> fmt::Display for ActWords<'a> {
+    fn fmt<W: fmt::Write>(&self, f: &mut fmt::Formatter<W>) -> fmt::Result {
+        let (first, words) = words_of_act(self.act);
+        write_words(f, self.plan, first, &words)
     }
 }
 
-// The first word and one name.
-fn write_one<W: fmt::Write>(f: &mut fmt::Formatter<W>, word: &str, name: &str) -> fmt::Result {
-    write!(f, "{word} {name}")
-}
-
-// The first word and two names.
-fn write_two<W: fmt::Write>(
-    f: &mut fmt::Formatter<W>,
-    word: &str,
-    first: &str,
-    second: &str,
-) -> fmt::Result {
-    write!(f, "{word} {first} {second}")
-}
-
-// The first word and three names.
-fn write_three<W: fmt::Write>(
-    f: &mut fmt::Formatter<W>,
-    word: &str,
-    first: &str,
-    second: &str,
-    third: &str,
-) -> fmt::Result {
-    write!(f, "{word} {first} {second} {third}")
-}
-
-// The first word, one name and a number.
-fn write_number<W: fmt::Write>(
-    f: &mut fmt::Formatter<W>,
-    word: &str,
-    name: &str,
-    number: u32,
-) -> fmt::Result {
-    write!(f, "{word} {name} {number}")
-}
-
-impl<'a> fmt::Display for ActWords<'a> {
-    fn fmt<W: fmt::Write>(&self, f: &mut fmt::Formatter<W>) -> fmt::Result {
-        let (plan, word) = (self.plan, act_word(self.act));
-        match self.act {
-            Act::Async(q, b) | Act::Barrier(q, b) | Act::Sync(q, b) | Act::BarrierSync(q, b) => {
-                write_two(f, word, object_name(plan, q), block_name(plan, b))
-            }
-            Act::GroupAsync(g, q, b) | Act::Notify(g, q, b) => {
-                let (group, queue) = (object_name(plan, g), object_name(plan, q));
-                write_three(f, word, group, queue, block_name(plan, b))
-            }
-            Act::Enter(o) | Act::Leave(o) | Act::GroupWait(o) | Act::Signal(o) | Act::Wait(o) => {
-                write_one(f, word, object_name(plan, o))
-            }
-            Act::Suspend(o) | Act::Resume(o) | Act::Activate(o) | Act::Cancel(o) => {
-                write_one(f, word, object_name(plan, o))
-            }
-            Act::Retain(o) | Act::Release(o) => write_one(f, word, object_name(plan, o)),
-            Act::Target(o, t) => write_two(f, word, object_name(plan, o), object_name(plan, t)),
-            Act::Merge(o, n) | Act::WaitFor(o, n) | Act::GroupWaitFor(o, n) => {
-                write_number(f, word, object_name(plan, o), n)
-            }
-            Act::Apply(q, a) => write_two(f, word, object_name(plan, q), strip_name(plan, a)),
-            Act::CancelBlock(b) | Act::WaitBlock(b) => write_one(f, word, block_name(plan, b)),
-            Act::NotifyBlock(b, q, c) => {
-                let (first, queue) = (block_name(plan, b), object_name(plan, q));
-                write_three(f, word, first, queue, block_name(plan, c))
-            }
-        }
+/// The run of an event; None where it has none.
+pub fn run_of(event: Event) -> Option<Run> {
+    match event {
+        Event::Start { blk, .. } | Event::Wake { blk, .. } => Some(Run::Block(blk)),
+        Event::End { blk, .. } | Event::Expire { blk } => Some(Run::Block(blk)),
+        Event::Accept { blk, .. } => Some(Run::Block(blk)),
+        Event::Act { run, .. } | Event::Misuse { run, .. } => Some(run),
+        Event::Deliver { src, .. } | Event::DeliverEnd { src, .. } => Some(Run::Source(src)),
+        Event::Ready { src, .. } | Event::FeedEnd { src } => Some(Run::Source(src)),
+        Event::Tick { .. } | Event::Halt | Event::Shut => None,
     }
 }
 
@@ -207,86 +199,38 @@ pub struct EventWords<'a> {
     pub event: Event,
 }
 
-// The first word, the worker and the name.
-fn write_turn<W: fmt::Write>(
-    f: &mut fmt::Formatter<W>,
-    word: &str,
-    worker: u8,
-    name: &str,
-) -> fmt::Result {
-    write!(f, "{word} {worker} {name}")
-}
-
-// The first word, the worker, the name and the index of an act.
-fn write_act<W: fmt::Write>(
-    f: &mut fmt::Formatter<W>,
-    word: &str,
-    worker: u8,
-    name: &str,
-    index: u32,
-) -> fmt::Result {
-    write!(f, "{word} {worker} {name} {index}")
+// The first word of an event, and the words after it.
+fn words_of_event(event: Event) -> (&'static str, [Word; 4]) {
+    use Word::{Code, Nothing, Number};
+    let worker = Number(u32::from(event.worker()));
+    let run = match run_of(event) {
+        Some(Run::Block(b)) => Word::Block(b),
+        Some(Run::Source(s)) => Word::Object(s),
+        None => Nothing,
+    };
+    match event {
+        Event::Start { .. } => ("start", [worker, run, Nothing, Nothing]),
+        Event::Act { index, .. } => ("act", [worker, run, Number(index), Nothing]),
+        Event::Wake { .. } => ("wake", [worker, run, Nothing, Nothing]),
+        Event::End { .. } => ("end", [worker, run, Nothing, Nothing]),
+        Event::Deliver { .. } => ("deliver", [worker, run, Nothing, Nothing]),
+        Event::DeliverEnd { .. } => ("deliver_end", [worker, run, Nothing, Nothing]),
+        Event::Tick { at } => ("tick", [Number(at), Nothing, Nothing, Nothing]),
+        Event::Ready { bytes, .. } => ("ready", [run, Number(bytes), Nothing, Nothing]),
+        Event::FeedEnd { .. } => ("feed_end", [run, Nothing, Nothing, Nothing]),
+        Event::Misuse { index, code, .. } => ("misuse", [worker, run, Number(index), Code(code)]),
+        Event::Halt => ("halt", [Nothing; 4]),
+        Event::Expire { .. } => ("expire", [run, Nothing, Nothing, Nothing]),
+        Event::Accept { sender, .. } => {
+            ("accept", [run, Number(u32::from(sender)), Nothing, Nothing])
+        }
+        Event::Shut => ("shut", [Nothing; 4]),
+    }
 }
 
 impl<'a> fmt::Display for EventWords<'a> {
     fn fmt<W: fmt::Write>(&self, f: &mut fmt::Formatter<W>) -> fmt::Result {
-        let plan = self.plan;
-        match self.event {
-            Event::Start { worker, blk } => write_turn(f, "start", worker, block_name(plan, blk)),
-            Event::Act { worker, run, index } => {
-                write_act(f, "act", worker, run_name(plan, run), index)
-            }
-            Event::Wake { worker, blk } => write_turn(f, "wake", worker, block_name(plan, blk)),
-            Event::End { worker, blk } => write_turn(f, "end", worker, block_name(plan, blk)),
-            Event::Deliver { worker, src } => {
-                write_turn(f, "deliver", worker, object_name(plan, src))
-            }
-            Event::DeliverEnd { worker, src } => {
-                write_turn(f, "deliver_end", worker, object_name(plan, src))
-            }
-            Event::Tick { at } => write!(f, "tick {at}"),
-            Event::Ready { src, bytes } => {
-                write_number(f, "ready", object_name(plan, src), bytes)
-            }
-            Event::FeedEnd { src } => write_one(f, "feed_end", object_name(plan, src)),
-            Event::Misuse {
-                worker,
-                run,
-                index,
-                code,
-            } => {
-                write_act(f, "misuse", worker, run_name(plan, run), index)?;
-                write!(f, " M{code}")
-            }
-            Event::Halt => f.write_str("halt"),
-            Event::Expire { blk } => write_one(f, "expire", block_name(plan, blk)),
-            Event::Accept { blk, sender } => {
-                write_number(f, "accept", block_name(plan, blk), u32::from(sender))
-            }
-            Event::Shut => f.write_str("shut"),
-        }
-    }
-}
-
-/// The name of a reason, as the definitions have it.
-pub fn why_name(why: Why) -> &'static str {
-    match why {
-        Why::Over => "Over",
-        Why::NoSuch => "NoSuch",
-        Why::Busy => "Busy",
-        Why::Unready => "Unready",
-        Why::Behind => "Behind",
-        Why::NotFree => "NotFree",
-        Why::Excluded => "Excluded",
-        Why::Fenced => "Fenced",
-        Why::NotOwn => "NotOwn",
-        Why::NotNext => "NotNext",
-        Why::IsMisuse => "IsMisuse",
-        Why::NotParked => "NotParked",
-        Why::Waiting => "Waiting",
-        Why::NotDue => "NotDue",
-        Why::NotLive => "NotLive",
-        Why::NotMisuse => "NotMisuse",
-        Why::Came => "Came",
+        let (first, words) = words_of_event(self.event);
+        write_words(f, self.plan, first, &words)
     }
 }

@@ -1,13 +1,13 @@
 // What events have made of a plan's objects and blocks, so far as sentences tell it. Nothing is judged by it: which event may come,
 // and why not, the machine says.
 
-use crate::naming::{act_at, strip_span};
+use crate::naming::{act_at, kind_of, objects_of, strip_span};
 use gcd_event::Event;
 use gcd_plan::{Act, Blk, Obj, Plan, Run};
 use std::alloc::{AllocError, Global};
 
 /// A place in a body: an act of a run, by its index.
-#[derive(Clone, Copy)]
+#[derive(Clone, Copy, PartialEq, Eq)]
 pub struct Place {
     pub run: Run,
     pub index: u32,
@@ -18,8 +18,6 @@ pub struct Place {
 pub struct ObjectNow {
     /// How many suspends no resume has answered.
     pub holds: u32,
-    /// The last suspend.
-    pub held_by: Option<Place>,
     pub is_active: bool,
     pub target: Obj,
     /// The target that it is under way to.
@@ -44,8 +42,90 @@ pub struct ObjectNow {
     pub made: u32,
 }
 
+impl ObjectNow {
+    // An object before anything has happened, with its first target.
+    fn new(is_active: bool, target: Obj) -> ObjectNow {
+        ObjectNow {
+            holds: 0,
+            is_active,
+            target,
+            coming: None,
+            open: 0,
+            enters: 0,
+            members: 0,
+            signals: 0,
+            waits: 0,
+            expired: 0,
+            refs: 1,
+            active_at: 0,
+            is_cancelled: false,
+            is_delivering: false,
+            made: 0,
+        }
+    }
+
+    /// How many enters and members a group counts.
+    pub fn count(self) -> u32 {
+        self.enters.saturating_add(self.members)
+    }
+
+    /// Whether nothing beneath the object may start, because it is inactive, suspended or under way to another target.
+    pub fn is_held(self) -> bool {
+        !self.is_active || self.holds > 0 || self.coming.is_some()
+    }
+
+    // A run on the object closes; a target that was put off takes effect with the last.
+    fn close(&mut self) {
+        self.open = self.open.saturating_sub(1);
+        if self.open == 0 {
+            self.target = self.coming.unwrap_or(self.target);
+            self.coming = None;
+        }
+    }
+
+    // A resume: that of an inactive source which is not suspended activates it.
+    fn resume(&mut self, is_source: bool) {
+        self.is_active = self.is_active || (self.holds == 0 && is_source);
+        self.holds = self.holds.saturating_sub(1);
+    }
+
+    // Another target, at once if no run is open on the object.
+    fn set_target(&mut self, target: Obj) {
+        if self.open == 0 {
+            self.target = target;
+        } else {
+            self.coming = Some(target);
+        }
+    }
+
+    // What an act does to the first object that it names.
+    fn act(&mut self, act: Act, is_source: bool) {
+        match act {
+            Act::Enter(_) => self.enters = self.enters.saturating_add(1),
+            Act::Leave(_) => self.enters = self.enters.saturating_sub(1),
+            Act::GroupAsync(..) => self.members = self.members.saturating_add(1),
+            Act::Signal(_) => self.signals = self.signals.saturating_add(1),
+            Act::Wait(_) | Act::WaitFor(..) => self.waits = self.waits.saturating_add(1),
+            Act::Suspend(_) => self.holds = self.holds.saturating_add(1),
+            Act::Resume(_) => self.resume(is_source),
+            Act::Activate(_) => self.is_active = true,
+            Act::Target(_, target) => self.set_target(target),
+            Act::Cancel(_) => self.is_cancelled = true,
+            Act::Retain(_) => self.refs = self.refs.saturating_add(1),
+            Act::Release(_) => self.refs = self.refs.saturating_sub(1),
+            _ => {}
+        }
+    }
+
+    // The handler of the source begins, or ends.
+    fn deliver(&mut self, is_delivering: bool) {
+        self.is_delivering = is_delivering;
+        self.made = 0;
+    }
+}
+
 /// What has become of a block.
-#[derive(Clone, Copy)]
+#[derive(Clone, Copy, Default)]
 pub struct BlockNow {
     /// How many acts its run has made.
     pub made: u32,
@@ -60,115 +140,107 @@ pub struct BlockNow {
     pub notify: Option<Obj>,
     /// The block at whose end it is registered.
     pub after: Option<Blk>,
-    /// The last wait at a group or semaphore that it began: the object for which it waits, and the limit, if the wait has one.
-    pub wait: Option<(Obj, Option<u32>)>,
+    /// The group or semaphore of its last wait, if it parked there last.
+    pub wait: Option<Obj>,
+    /// The limit of that wait, if it has one.
+    pub limit: Option<u32>,
     /// Whether that wait has expired.
     pub has_expired: bool,
     /// Whether its limit is `until`, and would be later otherwise.
     pub is_cut: bool,
 }
 
+impl BlockNow {
+    // What an act does to the block that it submits to the node, or registers.
+    fn submit(&mut self, by: Place, node: Obj, act: Act) {
+        self.by = Some(by);
+        self.node = Some(node);
+        match act {
+            Act::Barrier(..) | Act::BarrierSync(..) => self.is_barrier = true,
+            Act::GroupAsync(group, ..) => self.group = Some(group),
+            Act::Notify(group, ..) => self.notify = Some(group),
+            Act::NotifyBlock(first, ..) => self.after = Some(first),
+            _ => {}
+        }
+    }
+
+    // The block parks and begins the wait of this act. A limit is so many milliseconds from now, and no later than `until`.
+    fn park(&mut self, act: Act, now: u32, until: u32) {
+        let (wait, ms) = match act {
+            Act::GroupWait(o) | Act::Wait(o) => (Some(o), None),
+            Act::GroupWaitFor(o, ms) | Act::WaitFor(o, ms) => (Some(o), Some(ms)),
+            _ => (None, None),
+        };
+        let limit = ms.map(|ms| now.saturating_add(ms));
+        self.wait = wait;
+        self.limit = limit.map(|at| at.min(until));
+        self.has_expired = false;
+        self.is_cut = limit.is_some_and(|at| at > until);
+    }
+}
+
 /// What events have made of a plan.
 #[derive(Drop)]
 pub struct Scene {
-    pub objects: Vec<ObjectNow>,
-    pub blocks: Vec<BlockNow>,
-    /// The runs that workers have: open, and not parked.
-    pub having: Vec<(u8, Run)>,
+    objects: Vec<ObjectNow>,
+    blocks: Vec<BlockNow>,
+    // What is changed in place of an object or a block that the plan has not.
+    spare: (ObjectNow, BlockNow),
+    // The runs that workers have: open, and not parked.
+    having: Vec<(u8, Run)>,
     /// The waits that have expired at `until`, and would have had a later limit otherwise.
     pub cuts: Vec<Place>,
     /// Journal time.
     pub time: u32,
-    /// Whether the intake is shut.
-    pub is_shut: bool,
-}
-
-// An object before anything has happened.
-fn first_object(plan: &Plan, o: Obj) -> ObjectNow {
-    let known = o.0 < plan.objects();
-    ObjectNow {
-        holds: 0,
-        held_by: None,
-        is_active: !known || plan.starts_active(o),
-        target: if known { plan.first_target(o) } else { Obj(0) },
-        coming: None,
-        open: 0,
-        enters: 0,
-        members: 0,
-        signals: 0,
-        waits: 0,
-        expired: 0,
-        refs: 1,
-        active_at: 0,
-        is_cancelled: false,
-        is_delivering: false,
-        made: 0,
-    }
-}
-
-const FIRST_BLOCK: BlockNow = BlockNow {
-    made: 0,
-    by: None,
-    node: None,
-    is_barrier: false,
-    group: None,
-    notify: None,
-    after: None,
-    wait: None,
-    has_expired: false,
-    is_cut: false,
-};
-
-fn first_objects(alloc: Global, plan: &Plan) -> Result<Vec<ObjectNow>, AllocError> {
-    let mut objects = Vec::new(alloc);
-    for o in 0..plan.objects() {
-        objects.push(first_object(plan, Obj(o)))?;
-    }
-    Ok(objects)
-}
-
-// The blocks, of which cancellation blocks stand on their sources.
-fn first_blocks(alloc: Global, plan: &Plan) -> Result<Vec<BlockNow>, AllocError> {
-    let mut blocks = Vec::new(alloc);
-    for _ in 0..plan.blocks() {
-        blocks.push(FIRST_BLOCK)?;
-    }
-    for s in 0..plan.objects() {
-        if let Some(block) = plan.cancel_block(Obj(s)) {
-            if let Some(now) = blocks.get_mut(block.0 as usize) {
-                now.node = Some(Obj(s));
-            }
-        }
-    }
-    Ok(blocks)
 }
 
 impl Scene {
-    /// The scene before anything has happened. An `Err` comes only where memory runs out.
+    /// The scene before anything has happened: only cancellation blocks stand anywhere, on their sources. An `Err` comes only where
+    /// memory runs out.
     pub fn new(alloc: Global, plan: &Plan) -> Result<Scene, AllocError> {
-        let objects = first_objects(alloc, plan)?;
-        let blocks = first_blocks(alloc, plan)?;
-        Ok(Scene {
-            objects,
-            blocks,
+        let mut scene = Scene {
+            objects: Vec::new(alloc),
+            blocks: vec![in alloc; BlockNow::default(); plan.blocks() as usize]?,
+            spare: (ObjectNow::new(true, Obj(0)), BlockNow::default()),
             having: Vec::new(alloc),
             cuts: Vec::new(alloc),
             time: 0,
-            is_shut: false,
-        })
+        };
+        for o in 0..plan.objects() {
+            let (is_active, target) = (plan.starts_active(Obj(o)), plan.first_target(Obj(o)));
+            scene.objects.push(ObjectNow::new(is_active, target))?;
+            if let Some(b) = plan.cancel_block(Obj(o)) {
+                scene.block_mut(b).node = Some(Obj(o));
+            }
+        }
+        Ok(scene)
     }
 
-    /// What has become of the object; what the plan has not is as it would be at first.
+    /// What has become of the object. One that the plan lacks is active.
     pub fn object(&self, o: Obj) -> ObjectNow {
-        self.objects.get(o.0 as usize).copied().unwrap_or(NO_OBJECT)
+        match self.objects.get(o.0 as usize) {
+            Some(now) => *now,
+            None => ObjectNow::new(true, Obj(0)),
+        }
+    }
+
+    fn object_mut(&mut self, o: Obj) -> &mut ObjectNow {
+        match self.objects.get_mut(o.0 as usize) {
+            Some(now) => now,
+            None => &mut self.spare.0,
+        }
     }
 
     /// What has become of the block.
     pub fn block(&self, b: Blk) -> BlockNow {
-        self.blocks
-            .get(b.0 as usize)
-            .copied()
-            .unwrap_or(FIRST_BLOCK)
+        self.blocks.get(b.0 as usize).copied().unwrap_or_default()
+    }
+
+    fn block_mut(&mut self, b: Blk) -> &mut BlockNow {
+        match self.blocks.get_mut(b.0 as usize) {
+            Some(now) => now,
+            None => &mut self.spare.1,
+        }
     }
 
     /// How many acts the run has made.
@@ -181,45 +253,16 @@ impl Scene {
 
     /// The run that the worker has.
     pub fn run_of(&self, worker: u8) -> Option<Run> {
-        for (owner, run) in self.having.as_slice() {
-            if *owner == worker {
-                return Some(*run);
-            }
-        }
-        None
+        let had = self.having.iter().find(|had| had.0 == worker)?;
+        Some(had.1)
     }
 
     /// The worker that has the run.
     pub fn worker_of(&self, run: Run) -> Option<u8> {
-        for (owner, other) in self.having.as_slice() {
-            if *other == run {
-                return Some(*owner);
-            }
-        }
-        None
+        let had = self.having.iter().find(|had| had.1 == run)?;
+        Some(had.0)
     }
-}
 
-const NO_OBJECT: ObjectNow = ObjectNow {
-    holds: 0,
-    held_by: None,
-    is_active: true,
-    target: Obj(0),
-    coming: None,
-    open: 0,
-    enters: 0,
-    members: 0,
-    signals: 0,
-    waits: 0,
-    expired: 0,
-    refs: 1,
-    active_at: 0,
-    is_cancelled: false,
-    is_delivering: false,
-    made: 0,
-};
-
-impl Scene {
     // The node of a run.
     fn node(&self, run: Run) -> Option<Obj> {
         match run {
@@ -228,341 +271,123 @@ impl Scene {
         }
     }
 
-    // The worker gives back what it has.
-    fn give(&mut self, run: Run) {
+    // The run opens, with the worker.
+    fn begin(&mut self, worker: u8, run: Run) -> Result<(), AllocError> {
+        if let Some(node) = self.node(run) {
+            let now = self.object_mut(node);
+            now.open = now.open.saturating_add(1);
+        }
+        self.having.push((worker, run))?;
+        Ok(())
+    }
+
+    // The run closes, and its worker gives it back.
+    fn end(&mut self, run: Run) {
+        if let Some(node) = self.node(run) {
+            self.object_mut(node).close();
+        }
         self.having.retain(|had| had.1 != run);
     }
 
-    // The run opens.
-    fn open(&mut self, run: Run) {
-        let node = self.node(run);
-        if let Some(node) = node {
-            if let Some(now) = self.objects.get_mut(node.0 as usize) {
-                now.open = now.open.saturating_add(1);
-            }
-        }
-    }
-
-    // The run closes; a target that was put off takes effect with the last.
-    fn close(&mut self, run: Run) {
-        let node = self.node(run);
-        if let Some(node) = node {
-            if let Some(now) = self.objects.get_mut(node.0 as usize) {
-                now.open = now.open.saturating_sub(1);
-                if now.open == 0 {
-                    if let Some(coming) = now.coming {
-                        now.target = coming;
-                        now.coming = None;
-                    }
-                }
-            }
-        }
-    }
-
-    // The block is no member of its group any more.
+    // The block that ended is no member of its group any more.
     fn leave_group(&mut self, b: Blk) {
-        let group = self.block(b).group;
-        if let Some(group) = group {
-            if let Some(now) = self.objects.get_mut(group.0 as usize) {
-                now.members = now.members.saturating_sub(1);
-            }
+        if let Some(group) = self.block(b).group {
+            let now = self.object_mut(group);
+            now.members = now.members.saturating_sub(1);
         }
     }
 
     // One act more of the run.
     fn count(&mut self, run: Run) {
+        let made = self.made(run).saturating_add(1);
         match run {
-            Run::Block(b) => {
-                if let Some(now) = self.blocks.get_mut(b.0 as usize) {
-                    now.made = now.made.saturating_add(1);
-                }
-            }
-            Run::Source(s) => {
-                if let Some(now) = self.objects.get_mut(s.0 as usize) {
-                    now.made = now.made.saturating_add(1);
-                }
-            }
-        }
-    }
-
-    // The act submits the block to the node, or registers it.
-    fn submit(&mut self, by: Place, node: Obj, b: Blk, is_barrier: bool) {
-        if let Some(now) = self.blocks.get_mut(b.0 as usize) {
-            now.by = Some(by);
-            now.node = Some(node);
-            now.is_barrier = is_barrier;
-        }
-    }
-
-    fn join_group(&mut self, group: Obj, b: Blk) {
-        if let Some(now) = self.blocks.get_mut(b.0 as usize) {
-            now.group = Some(group);
-        }
-        if let Some(now) = self.objects.get_mut(group.0 as usize) {
-            now.members = now.members.saturating_add(1);
-        }
-    }
-
-    fn register(&mut self, group: Obj, b: Blk) {
-        if let Some(now) = self.blocks.get_mut(b.0 as usize) {
-            now.notify = Some(group);
-        }
-    }
-
-    // The act registers the block at the end of another.
-    fn follow(&mut self, first: Blk, b: Blk) {
-        if let Some(now) = self.blocks.get_mut(b.0 as usize) {
-            now.after = Some(first);
+            Run::Block(b) => self.block_mut(b).made = made,
+            Run::Source(s) => self.object_mut(s).made = made,
         }
     }
 
     // The act submits the blocks of the strip to the node.
-    fn apply(&mut self, plan: &Plan, by: Place, node: Obj, a: u32) {
+    fn apply(&mut self, plan: &Plan, by: Place, node: Obj, act: Act, a: u32) {
         let (first, count) = strip_span(plan, a);
         for place in 0..count {
-            self.submit(by, node, Blk(first.saturating_add(place)), false);
-        }
-    }
-
-    // The block, which comes from outside, stands on the queue of the intake.
-    fn accept(&mut self, plan: &Plan, b: Blk) {
-        if let Some((queue, _, _)) = plan.intake() {
-            if let Some(now) = self.blocks.get_mut(b.0 as usize) {
-                now.node = Some(queue);
-            }
-        }
-    }
-
-    // What an act on blocks does.
-    fn submitted(&mut self, plan: &Plan, by: Place, act: Act) {
-        match act {
-            Act::Async(q, b) | Act::Sync(q, b) => self.submit(by, q, b, false),
-            Act::Barrier(q, b) | Act::BarrierSync(q, b) => self.submit(by, q, b, true),
-            Act::GroupAsync(g, q, b) => {
-                self.submit(by, q, b, false);
-                self.join_group(g, b);
-            }
-            Act::Notify(g, q, b) => {
-                self.submit(by, q, b, false);
-                self.register(g, b);
-            }
-            Act::NotifyBlock(first, q, b) => {
-                self.submit(by, q, b, false);
-                self.follow(first, b);
-            }
-            Act::Apply(q, a) => self.apply(plan, by, q, a),
-            Act::CancelBlock(_) | Act::WaitBlock(_) => {}
-            Act::Enter(_) | Act::Leave(_) | Act::GroupWait(_) | Act::GroupWaitFor(..) => {}
-            Act::Signal(_) | Act::Wait(_) | Act::WaitFor(..) => {}
-            Act::Suspend(_) | Act::Resume(_) | Act::Activate(_) | Act::Target(..) => {}
-            Act::Merge(..) | Act::Cancel(_) | Act::Retain(_) | Act::Release(_) => {}
-        }
-    }
-
-    // The run, which parks, begins the wait of this act: one with a limit, or one for the end of a block or of a strip.
-    fn wait(&mut self, run: Run, act: Act, until: u32) {
-        let time = self.time;
-        if let Run::Block(b) = run {
-            if let Some(now) = self.blocks.get_mut(b.0 as usize) {
-                now.wait = begun_wait(act, time, until);
-                now.has_expired = false;
-                now.is_cut = is_past(act, time, until);
-            }
+            let b = Blk(first.saturating_add(place));
+            self.block_mut(b).submit(by, node, act);
         }
     }
 
     // The wait of the block expires.
     fn expire(&mut self, b: Blk) -> Result<(), AllocError> {
-        let before = self.block(b);
-        if let Some(now) = self.blocks.get_mut(b.0 as usize) {
-            now.has_expired = true;
+        self.block_mut(b).has_expired = true;
+        let block = self.block(b);
+        if let Some(o) = block.wait {
+            let now = self.object_mut(o);
+            now.waits = now.waits.saturating_sub(1);
+            now.expired = now.expired.saturating_add(1);
         }
-        if let Some((o, _)) = before.wait {
-            if let Some(now) = self.objects.get_mut(o.0 as usize) {
-                now.waits = now.waits.saturating_sub(1);
-                now.expired = now.expired.saturating_add(1);
-            }
-        }
-        if before.is_cut {
-            let index = before.made.saturating_sub(1);
-            let run = Run::Block(b);
+        if block.is_cut {
+            let (run, index) = (Run::Block(b), block.made.saturating_sub(1));
             self.cuts.push(Place { run, index })?;
         }
         Ok(())
     }
 
-    // What an act on an object does to it.
-    fn changed(&mut self, by: Place, act: Act, is_source: bool) {
-        let Some(o) = object_of(act) else {
-            return;
-        };
-        let time = self.time;
-        let Some(now) = self.objects.get_mut(o.0 as usize) else {
-            return;
-        };
+    // What an act does to the blocks that it submits, and to the first object that it names. The last is the node of these blocks.
+    fn change(&mut self, plan: &Plan, by: Place, act: Act) {
+        let (first, node) = objects_of(act);
+        if let Some(b) = act.block() {
+            self.block_mut(b).submit(by, node, act);
+        }
+        if let Some(a) = act.strip() {
+            self.apply(plan, by, node, act, a);
+        }
+        let (time, is_source) = (self.time, kind_of(plan, first).is_source());
+        let now = self.object_mut(first);
         let was_active = now.is_active;
-        *now = after_act(*now, by, act, is_source);
+        now.act(act, is_source);
         if !was_active && now.is_active {
             now.active_at = time;
         }
     }
 
-    // The act is made.
+    // The act is made. If it parks its block, the worker gives that back.
     fn acted(&mut self, plan: &Plan, by: Place) {
         let Some(act) = act_at(plan, by.run, by.index) else {
             return;
         };
         self.count(by.run);
         if act.parks() {
-            self.give(by.run);
-            self.wait(by.run, act, plan.until());
+            self.having.retain(|had| had.1 != by.run);
+            if let Run::Block(b) = by.run {
+                let time = self.time;
+                self.block_mut(b).park(act, time, plan.until());
+            }
         }
-        self.submitted(plan, by, act);
-        let is_source = match object_of(act) {
-            Some(o) => o.0 < plan.objects() && plan.kind(o).is_source(),
-            None => false,
-        };
-        self.changed(by, act, is_source);
-    }
-
-    // The source is cancelled.
-    fn cancel(&mut self, s: Obj) {
-        if let Some(now) = self.objects.get_mut(s.0 as usize) {
-            now.is_cancelled = true;
-        }
-    }
-
-    // The handler of the source begins, or ends.
-    fn deliver(&mut self, s: Obj, is_delivering: bool) {
-        if let Some(now) = self.objects.get_mut(s.0 as usize) {
-            now.is_delivering = is_delivering;
-            now.made = 0;
-        }
+        self.change(plan, by, act);
     }
 
     /// Takes an event. An `Err` comes only where memory runs out.
     pub fn take(&mut self, plan: &Plan, event: Event) -> Result<(), AllocError> {
+        if let Some(run) = event.begun() {
+            self.begin(event.worker(), run)?;
+        }
+        if let Some(run) = event.ended() {
+            self.end(run);
+        }
         match event {
-            Event::Start { worker, blk } => {
-                self.open(Run::Block(blk));
-                self.having.push((worker, Run::Block(blk)))?;
-            }
             Event::Act { run, index, .. } => self.acted(plan, Place { run, index }),
             Event::Wake { worker, blk } => self.having.push((worker, Run::Block(blk)))?,
-            Event::End { blk, .. } => {
-                self.close(Run::Block(blk));
-                self.leave_group(blk);
-                self.give(Run::Block(blk));
-            }
-            Event::Deliver { worker, src } => {
-                self.open(Run::Source(src));
-                self.deliver(src, true);
-                self.having.push((worker, Run::Source(src)))?;
-            }
-            Event::DeliverEnd { src, .. } => {
-                self.close(Run::Source(src));
-                self.deliver(src, false);
-                self.give(Run::Source(src));
-            }
+            Event::End { blk, .. } => self.leave_group(blk),
+            Event::Deliver { src, .. } => self.object_mut(src).deliver(true),
+            Event::DeliverEnd { src, .. } => self.object_mut(src).deliver(false),
             Event::Tick { at } => self.time = at,
-            Event::Ready { .. } => {}
-            Event::FeedEnd { src } => self.cancel(src),
-            Event::Misuse { .. } => {}
-            Event::Halt => {}
+            Event::FeedEnd { src } => self.object_mut(src).is_cancelled = true,
             Event::Expire { blk } => self.expire(blk)?,
-            Event::Accept { blk, .. } => self.accept(plan, blk),
-            Event::Shut => self.is_shut = true,
+            Event::Accept { blk, .. } => {
+                self.block_mut(blk).node = plan.intake().map(|intake| intake.0);
+            }
+            Event::Start { .. } | Event::Ready { .. } | Event::Misuse { .. } => {}
+            Event::Halt | Event::Shut => {}
         }
         Ok(())
     }
-}
-
-// The object that an act changes; None for one that has to do with blocks alone.
-fn object_of(act: Act) -> Option<Obj> {
-    match act {
-        Act::Async(..) | Act::Barrier(..) | Act::Sync(..) | Act::BarrierSync(..) => None,
-        Act::GroupAsync(..) | Act::Notify(..) => None,
-        Act::Enter(o) | Act::Leave(o) | Act::GroupWait(o) | Act::GroupWaitFor(o, _) => Some(o),
-        Act::Signal(o) | Act::Wait(o) | Act::WaitFor(o, _) => Some(o),
-        Act::Suspend(o) | Act::Resume(o) | Act::Activate(o) => Some(o),
-        Act::Target(o, _) | Act::Merge(o, _) | Act::Cancel(o) => Some(o),
-        Act::Retain(o) | Act::Release(o) => Some(o),
-        Act::Apply(..) | Act::CancelBlock(_) | Act::WaitBlock(_) | Act::NotifyBlock(..) => None,
-    }
-}
-
-// The wait at a group or semaphore that the act begins, with its limit where it has one: so many milliseconds from now, and no later
-// than `until`.
-fn begun_wait(act: Act, now: u32, until: u32) -> Option<(Obj, Option<u32>)> {
-    match act {
-        Act::GroupWait(o) | Act::Wait(o) => Some((o, None)),
-        Act::GroupWaitFor(o, ms) | Act::WaitFor(o, ms) => {
-            Some((o, Some(now.saturating_add(ms).min(until))))
-        }
-        Act::Async(..) | Act::Barrier(..) | Act::Sync(..) | Act::BarrierSync(..) => None,
-        Act::GroupAsync(..) | Act::Notify(..) | Act::Enter(_) | Act::Leave(_) => None,
-        Act::Signal(_) | Act::Suspend(_) | Act::Resume(_) | Act::Activate(_) => None,
-        Act::Target(..) | Act::Merge(..) | Act::Cancel(_) => None,
-        Act::Retain(_) | Act::Release(_) => None,
-        Act::Apply(..) | Act::CancelBlock(_) | Act::WaitBlock(_) | Act::NotifyBlock(..) => None,
-    }
-}
-
-// Whether the wait that the act begins would have a limit past `until`.
-fn is_past(act: Act, now: u32, until: u32) -> bool {
-    match act {
-        Act::GroupWaitFor(_, ms) | Act::WaitFor(_, ms) => now.saturating_add(ms) > until,
-        _ => false,
-    }
-}
-
-// The object after a resume: that of an inactive source which is not suspended activates it.
-fn resumed(now: ObjectNow, is_source: bool) -> ObjectNow {
-    let mut after = now;
-    if now.holds == 0 && is_source {
-        after.is_active = true;
-    }
-    after.holds = now.holds.saturating_sub(1);
-    after
-}
-
-// The object with another target, at once where no run is open on it.
-fn targeted(now: ObjectNow, target: Obj) -> ObjectNow {
-    let mut after = now;
-    if now.open == 0 {
-        after.target = target;
-    } else {
-        after.coming = Some(target);
-    }
-    after
-}
-
-fn suspended(now: ObjectNow, by: Place) -> ObjectNow {
-    let mut after = now;
-    after.holds = now.holds.saturating_add(1);
-    after.held_by = Some(by);
-    after
-}
-
-// The object after the act.
-fn after_act(now: ObjectNow, by: Place, act: Act, is_source: bool) -> ObjectNow {
-    let mut after = now;
-    match act {
-        Act::Enter(_) => after.enters = now.enters.saturating_add(1),
-        Act::Leave(_) => after.enters = now.enters.saturating_sub(1),
-        Act::Signal(_) => after.signals = now.signals.saturating_add(1),
-        Act::Wait(_) | Act::WaitFor(..) => after.waits = now.waits.saturating_add(1),
-        Act::Suspend(_) => return suspended(now, by),
-        Act::Resume(_) => return resumed(now, is_source),
-        Act::Activate(_) => after.is_active = true,
-        Act::Target(_, target) => return targeted(now, target),
-        Act::Cancel(_) => after.is_cancelled = true,
-        Act::Retain(_) => after.refs = now.refs.saturating_add(1),
-        Act::Release(_) => after.refs = now.refs.saturating_sub(1),
-        Act::GroupWait(_) | Act::GroupWaitFor(..) | Act::Merge(..) => {}
-        Act::Async(..) | Act::Barrier(..) | Act::Sync(..) | Act::BarrierSync(..) => {}
-        Act::GroupAsync(..) | Act::Notify(..) => {}
-        Act::Apply(..) | Act::CancelBlock(_) | Act::WaitBlock(_) | Act::NotifyBlock(..) => {}
-    }
-    after
 }

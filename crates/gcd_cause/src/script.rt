@@ -2,30 +2,34 @@
 
 use crate::another::{Found, declared_by, other_line, submitted_by};
 use crate::lines::{Words, line_at};
-use crate::shapes::{is_first, write_fitting, write_forms};
+use crate::shapes::{is_first, write_fitting};
 use crate::shown::{Shown, Word, write_at_place, write_bad_byte, write_expected, write_quoted};
 use gcd_plan::{MAX_ACTS, MAX_BLOCKS, MAX_FILES, MAX_OBJECTS, MAX_STRIPS};
 use gcd_script::{Amount, Asked, Cause, Choice, Limit};
 use std::fmt;
 
-/// Why a script is refused at a line: the cause that the parser told, the line, and another line that the cause is about.
+/// Why a script is refused at a line: the cause that the parser told, the line, and another line that the cause is about, or line 0.
 #[derive(Clone, Copy)]
 pub struct ScriptCause<'a> {
     cause: Cause,
     bytes: &'a [u8],
     words: Words<'a>,
-    other: Option<Found<'a>>,
+    other: Found<'a>,
 }
 
 /// Returns why the script is refused at that line, with the cause that the parser or the loading of its files told.
 pub fn cause_of_script<'a>(text: &'a [u8], line: u32, cause: Cause) -> ScriptCause<'a> {
-    let bytes = line_at(text, line).unwrap_or(&[]);
-    let words = Words::of_any(bytes);
+    let bytes = line_at(text, line);
+    let words = Words::of(bytes).unwrap_or(Words::alone(""));
+    let nothing = Found {
+        line: 0,
+        words: Words::alone(""),
+    };
     ScriptCause {
         cause,
         bytes,
         words,
-        other: other_line(text, line, cause, words),
+        other: other_line(text, line, cause, words).unwrap_or(nothing),
     }
 }
 
@@ -76,36 +80,10 @@ fn is_decimal(word: &str) -> bool {
     !has_zero && word.as_bytes().iter().all(|c| c.is_ascii_digit())
 }
 
-// One more than a script may have.
-fn write_limit<W: fmt::Write>(f: &mut fmt::Formatter<W>, what: &str, most: u32) -> fmt::Result {
-    write!(f, "one {what} too many: a script has at most {most}")
-}
-
-// That an earlier line does it to that name.
-fn write_done<W: fmt::Write>(
-    f: &mut fmt::Formatter<W>,
-    line: u32,
-    does: &str,
-    name: &str,
-) -> fmt::Result {
-    write!(f, "line {line} {does} '{name}' already")
-}
-
 impl<'a> ScriptCause<'a> {
-    // The number of the other line.
-    fn other_number(&self) -> u32 {
-        match self.other {
-            Some(found) => found.line,
-            None => 0,
-        }
-    }
-
     // What the other line declares.
     fn other_words(&self) -> &'static str {
-        match self.other {
-            Some(found) => declared_by(found.words).unwrap_or("a name"),
-            None => "a name",
-        }
+        declared_by(self.other.words).unwrap_or("a name")
     }
 
     // How many words the line has, where its first word has no form of so many.
@@ -121,46 +99,38 @@ impl<'a> ScriptCause<'a> {
             f,
             "'{first}' has {about}{count} word{plural} after it here, and may be: "
         )?;
-        write_forms(f, first)
+        write_fitting(f, "", &self.words, 1)
     }
 
-    // Why the line has no form.
-    fn write_form<W: fmt::Write>(&self, f: &mut fmt::Formatter<W>) -> fmt::Result {
-        match self.cause {
-            Cause::BadByte => write_bad_byte(f, self.bytes, BYTES),
-            Cause::Misplaced { place, expected } => {
-                write_expected(f, choice_words(expected), self.words.at(place), place)?;
-                write_fitting(f, "; the forms that fit are: ", &self.words, place)
-            }
-            Cause::LongPath { place } => {
-                let bytes = self.words.at(place).len();
-                write!(
-                    f,
-                    "the path has {bytes} bytes, and a path has at most 255 (word {place})"
-                )
-            }
-            Cause::OutsideBody => write_quoted(f, "", self.words.first, NO_BODY),
-            _ => self.write_count(f),
-        }
+    // That the form spells out another word at that place.
+    fn write_misplaced<W: fmt::Write>(
+        &self,
+        f: &mut fmt::Formatter<W>,
+        place: u8,
+        expected: Choice,
+    ) -> fmt::Result {
+        write_expected(f, choice_words(expected), self.words.at(place), place)?;
+        write_fitting(f, "; the forms that fit are: ", &self.words, place)
     }
 
-    // Why the line may not declare its name, or not again.
-    fn write_name<W: fmt::Write>(&self, f: &mut fmt::Formatter<W>) -> fmt::Result {
-        let name = self.words.get(0);
-        match self.cause {
-            Cause::IllFormedName => write_quoted(f, "", name, BAD_NAME),
-            Cause::ReservedName => write_quoted(f, "", name, RESERVED),
-            Cause::TakenName => {
-                let (line, what) = (self.other_number(), self.other_words());
-                write!(f, "'{name}' is taken: line {line} declares it as {what}")
-            }
-            _ => self.write_second(f),
-        }
+    // That the path at that place is too long.
+    fn write_long<W: fmt::Write>(&self, f: &mut fmt::Formatter<W>, place: u8) -> fmt::Result {
+        let bytes = self.words.at(place).len();
+        write!(
+            f,
+            "the path has {bytes} bytes, and a path has at most 255 (word {place})"
+        )
+    }
+
+    // That an earlier line declares the name.
+    fn write_taken<W: fmt::Write>(&self, f: &mut fmt::Formatter<W>) -> fmt::Result {
+        let (name, line, what) = (self.words.get(0), self.other.line, self.other_words());
+        write!(f, "'{name}' is taken: line {line} declares it as {what}")
     }
 
     // That an earlier line begins with the word too, which only one line may.
     fn write_second<W: fmt::Write>(&self, f: &mut fmt::Formatter<W>) -> fmt::Result {
-        let (first, line) = (self.words.first, self.other_number());
+        let (first, line) = (self.words.first, self.other.line);
         write!(f, "a second '{first}': line {line} has the first")
     }
 
@@ -170,16 +140,14 @@ impl<'a> ScriptCause<'a> {
         if name == "main" {
             return write_at_place(f, name, " cannot be used as a name", place);
         }
-        match self.other {
-            Some(found) => {
-                let line = found.line;
-                write!(
-                    f,
-                    "'{name}' is not declared on an earlier line, but on line {line} (word {place})"
-                )
-            }
-            None => write_at_place(f, name, UNDECLARED, place),
+        let line = self.other.line;
+        if line == 0 {
+            return write_at_place(f, name, UNDECLARED, place);
         }
+        write!(
+            f,
+            "'{name}' is not declared on an earlier line, but on line {line} (word {place})"
+        )
     }
 
     // That the name at that place is of another kind.
@@ -193,23 +161,11 @@ impl<'a> ScriptCause<'a> {
         if name == "root" {
             return write_expected(f, expected, name, place);
         }
-        let (line, what) = (self.other_number(), self.other_words());
+        let (line, what) = (self.other.line, self.other_words());
         write!(
             f,
             "expected {expected}, found '{name}' (word {place}): line {line} declares it as {what}"
         )
-    }
-
-    // Why a used name does not fit.
-    fn write_used<W: fmt::Write>(&self, f: &mut fmt::Formatter<W>) -> fmt::Result {
-        match self.cause {
-            Cause::UnknownName { place } => self.write_unknown(f, place),
-            Cause::NotFile { place } => self.write_kind(f, place, "a file"),
-            Cause::NotBlock { place } => self.write_kind(f, place, "a block"),
-            Cause::NotStrip { place } => self.write_kind(f, place, "a strip"),
-            Cause::NotObject { place, asked } => self.write_kind(f, place, object_words(asked)),
-            _ => Ok(()),
-        }
     }
 
     // Why the number at that place does not fit.
@@ -230,33 +186,25 @@ impl<'a> ScriptCause<'a> {
         )
     }
 
-    // What the line does a second time, or where it may not.
-    fn write_repeated<W: fmt::Write>(&self, f: &mut fmt::Formatter<W>) -> fmt::Result {
-        let (line, name) = (self.other_number(), self.words.get(0));
-        match self.cause {
-            Cause::SubmittedTwice => {
-                let block = submitted_by(self.words).unwrap_or("");
-                write_done(f, line, "submits", block)
-            }
-            Cause::AppliedTwice => write_done(f, line, "applies", self.words.get(1)),
-            Cause::SecondHandler => write!(f, "'{name}' has a handler already, on line {line}"),
-            Cause::SecondCancel => {
-                write!(
-                    f,
-                    "'{name}' has a cancellation block already, on line {line}"
-                )
-            }
-            _ => self.write_in_handler(f),
-        }
+    // That an earlier line does it to that name.
+    fn write_done<W: fmt::Write>(
+        &self,
+        f: &mut fmt::Formatter<W>,
+        does: &str,
+        name: &str,
+    ) -> fmt::Result {
+        write!(f, "line {} {does} '{name}' already", self.other.line)
+    }
+
+    // That an earlier line gives the source such a thing.
+    fn write_given<W: fmt::Write>(&self, f: &mut fmt::Formatter<W>, what: &str) -> fmt::Result {
+        let (source, line) = (self.words.get(0), self.other.line);
+        write!(f, "'{source}' has a {what} already, on line {line}")
     }
 
     // That the act may not be in a handler.
     fn write_in_handler<W: fmt::Write>(&self, f: &mut fmt::Formatter<W>) -> fmt::Result {
-        let act = self.words.first;
-        let source = match self.other {
-            Some(found) => found.words.get(0),
-            None => "",
-        };
+        let (act, source) = (self.words.first, self.other.words.get(0));
         write!(
             f,
             "'{act}' may not be in a handler, and that of '{source}' is open: a handler submits no block and waits for nothing"
@@ -265,34 +213,50 @@ impl<'a> ScriptCause<'a> {
 
     // What there is no room for.
     fn write_past<W: fmt::Write>(&self, f: &mut fmt::Formatter<W>, limit: Limit) -> fmt::Result {
-        match limit {
-            Limit::Files => write_limit(f, "file", MAX_FILES),
-            Limit::Objects => write_limit(f, "object", MAX_OBJECTS - 1),
-            Limit::Blocks => write_limit(f, "block", MAX_BLOCKS - 1),
-            Limit::Strips => write_limit(f, "strip", MAX_STRIPS),
-            Limit::Acts => write_limit(f, "act", MAX_ACTS),
-            Limit::Script => f.write_str("the script has more than 1048576 bytes"),
+        let (what, most) = match limit {
+            Limit::Files => ("file", MAX_FILES),
+            Limit::Objects => ("object", MAX_OBJECTS - 1),
+            Limit::Blocks => ("block", MAX_BLOCKS - 1),
+            Limit::Strips => ("strip", MAX_STRIPS),
+            Limit::Acts => ("act", MAX_ACTS),
+            Limit::Script => return f.write_str("the script has more than 1048576 bytes"),
             Limit::File => {
                 let (name, path) = (self.words.get(0), Shown(self.words.get(1)));
-                write!(f, "{path}, the file '{name}', has more than 16777216 bytes")
+                return write!(f, "{path}, the file '{name}', has more than 16777216 bytes");
             }
-        }
+        };
+        write!(f, "one {what} too many: a script has at most {most}")
     }
 }
 
 impl<'a> fmt::Display for ScriptCause<'a> {
     fn fmt<W: fmt::Write>(&self, f: &mut fmt::Formatter<W>) -> fmt::Result {
+        let words = self.words;
         match self.cause {
+            Cause::BadByte => write_bad_byte(f, self.bytes, BYTES),
+            Cause::UnknownFirst | Cause::WordCount => self.write_count(f),
+            Cause::Misplaced { place, expected } => self.write_misplaced(f, place, expected),
+            Cause::LongPath { place } => self.write_long(f, place),
+            Cause::OutsideBody => write_quoted(f, "", words.first, NO_BODY),
+            Cause::SecondUntil | Cause::SecondIntake | Cause::SecondMain => self.write_second(f),
+            Cause::IllFormedName => write_quoted(f, "", words.get(0), BAD_NAME),
+            Cause::ReservedName => write_quoted(f, "", words.get(0), RESERVED),
+            Cause::TakenName => self.write_taken(f),
+            Cause::UnknownName { place } => self.write_unknown(f, place),
+            Cause::NotFile { place } => self.write_kind(f, place, "a file"),
+            Cause::NotBlock { place } => self.write_kind(f, place, "a block"),
+            Cause::NotStrip { place } => self.write_kind(f, place, "a strip"),
+            Cause::NotObject { place, asked } => self.write_kind(f, place, object_words(asked)),
             Cause::BadNumber { place, amount } => self.write_number(f, place, amount),
+            Cause::SubmittedTwice => {
+                self.write_done(f, "submits", submitted_by(words).unwrap_or(""))
+            }
+            Cause::AppliedTwice => self.write_done(f, "applies", words.get(1)),
+            Cause::SecondHandler => self.write_given(f, "handler"),
+            Cause::SecondCancel => self.write_given(f, "cancellation block"),
+            Cause::InHandler => self.write_in_handler(f),
             Cause::PastLimit(limit) => self.write_past(f, limit),
-            Cause::SecondMain => self.write_second(f),
             Cause::NoMain => f.write_str("the script ends, and no line is 'main'"),
-            _ => match self.cause.code() {
-                1 => self.write_form(f),
-                2 => self.write_name(f),
-                3 | 4 => self.write_used(f),
-                _ => self.write_repeated(f),
-            },
         }
     }
 }

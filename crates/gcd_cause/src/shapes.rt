@@ -1,7 +1,6 @@
 // How the lines of a script are written.
 
 use crate::lines::Words;
-use crate::pick::is_among;
 use std::fmt;
 
 // Each form of line: its first word, and how the words after it are written. Those of one first word are neighbours.
@@ -54,12 +53,6 @@ static SHAPES: [(&str, &str); 46] = [
     ("notify_block", "B Q C"),
 ];
 
-static WORKS: [&str; 4] = ["bytes", "lines", "words", "sum"];
-
-static QUEUE_KINDS: [&str; 2] = ["serial", "concurrent"];
-
-static MERGE_KINDS: [&str; 3] = ["add", "or", "replace"];
-
 /// Whether a line may begin with the word.
 pub fn is_first(word: &str) -> bool {
     SHAPES.as_slice().iter().any(|(first, _)| *first == word)
@@ -68,9 +61,9 @@ pub fn is_first(word: &str) -> bool {
 // Whether a word may be what the form has in its place. A name, a path and a number may be any word.
 fn is_met(asked: &str, word: &str) -> bool {
     match asked {
-        "K" => is_among(&QUEUE_KINDS, word),
-        "W" => is_among(&WORKS, word),
-        "add" => is_among(&MERGE_KINDS, word),
+        "K" => ["serial", "concurrent"].contains(&word),
+        "W" => ["bytes", "lines", "words", "sum"].contains(&word),
+        "add" => ["add", "or", "replace"].contains(&word),
         "count" | "inactive" | "on" | "read" | "timer" => asked == word,
         _ => true,
     }
@@ -78,44 +71,21 @@ fn is_met(asked: &str, word: &str) -> bool {
 
 // Whether the words of a line fit a form up to that place, from 1, the first word.
 fn fits(shape: &str, words: &Words, place: u8) -> bool {
-    let mut at = 1u8;
+    let mut left = place.saturating_sub(1);
     for (asked, word) in shape.split(' ').zip(words.after.as_slice()) {
-        at = at.saturating_add(1);
+        if left == 0 {
+            return true;
+        }
         if !is_met(asked, *word) {
             return false;
         }
-        if at == place {
-            return true;
-        }
+        left = left.saturating_sub(1);
     }
-    false
+    left == 0
 }
 
-// A form, after what separates it from the one before.
-fn write_shape<W: fmt::Write>(
-    f: &mut fmt::Formatter<W>,
-    between: &str,
-    first: &str,
-    shape: &str,
-) -> fmt::Result {
-    let space = if shape.is_empty() { "" } else { " " };
-    write!(f, "{between}{first}{space}{shape}")
-}
-
-/// All forms of the first word of a line.
-pub fn write_forms<W: fmt::Write>(f: &mut fmt::Formatter<W>, first: &str) -> fmt::Result {
-    let mut is_first = true;
-    for (other, shape) in SHAPES.as_slice() {
-        if *other == first {
-            let between = if is_first { "" } else { "; " };
-            write_shape(f, between, first, *shape)?;
-            is_first = false;
-        }
-    }
-    Ok(())
-}
-
-/// The forms that the words of a line fit up to that place, from 1, after what introduces them. Nothing if there is none.
+/// The forms of the first word of a line that its words fit up to that place, from 1, after what introduces them; all forms of the first
+/// word, where that is the place. Nothing if there is none.
 pub fn write_fitting<W: fmt::Write>(
     f: &mut fmt::Formatter<W>,
     before: &str,
@@ -126,7 +96,8 @@ pub fn write_fitting<W: fmt::Write>(
     for (first, shape) in SHAPES.as_slice() {
         if *first == words.first && fits(*shape, words, place) {
             let between = if is_first { before } else { "; " };
-            write_shape(f, between, *first, *shape)?;
+            let space = if shape.is_empty() { "" } else { " " };
+            write!(f, "{between}{first}{space}{shape}")?;
             is_first = false;
         }
     }

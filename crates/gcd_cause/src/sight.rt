@@ -1,7 +1,7 @@
 // A place of a run: the machine that stands there, and what the events before it have made.
 
 use crate::naming::{
-    act_at, acts_of, block_name, kind_of, object_name, run_name, strip_name, strip_span,
+    acts_from, block_name, kind_of, kind_words, object_name, run_name, strip_name, strip_span,
 };
 use crate::scene::Scene;
 use gcd_event::Event;
@@ -31,6 +31,11 @@ impl<'a> Sight<'a> {
 
     pub fn name_of(self, run: Run) -> &'a str {
         run_name(self.plan, run)
+    }
+
+    /// What the object is, in words.
+    pub fn kind_of(self, o: Obj) -> &'static str {
+        kind_words(kind_of(self.plan, o))
     }
 
     /// Whether the block has started.
@@ -64,9 +69,7 @@ impl<'a> Sight<'a> {
             let b = Blk(first.saturating_add(place));
             if !self.is_ended(b) {
                 left = left.saturating_add(1);
-                if found.is_none() {
-                    found = Some(b);
-                }
+                found = found.or(Some(b));
             }
         }
         (found, left)
@@ -74,20 +77,26 @@ impl<'a> Sight<'a> {
 
     /// What the block waits for, where it is parked.
     pub fn awaited(self, b: Blk) -> Option<Reason> {
-        if b.0 < self.machine.blocks() {
-            self.machine.awaited(b)
-        } else {
-            None
+        if b.0 >= self.machine.blocks() {
+            return None;
+        }
+        self.machine.awaited(b)
+    }
+
+    /// What the run waits for, where it is a block that is parked.
+    pub fn awaited_by(self, run: Run) -> Option<Reason> {
+        match run {
+            Run::Block(b) => self.awaited(b),
+            Run::Source(_) => None,
         }
     }
 
     /// The node on which the block was submitted.
     pub fn node_of(self, b: Blk) -> Option<Obj> {
-        if b.0 < self.machine.blocks() {
-            self.machine.node_of(b)
-        } else {
-            None
+        if b.0 >= self.machine.blocks() {
+            return None;
         }
+        self.machine.node_of(b)
     }
 
     /// Whether the block is submitted; `main` is from the outset.
@@ -97,26 +106,29 @@ impl<'a> Sight<'a> {
 
     /// The first block that waits on the node.
     pub fn first_waiting(self, node: Obj) -> Option<Blk> {
-        if node.0 < self.machine.objects() {
-            self.machine.first_waiting(node)
-        } else {
-            None
+        if node.0 >= self.machine.objects() {
+            return None;
         }
+        self.machine.first_waiting(node)
     }
 
     /// What is pending at the source.
     pub fn pending(self, s: Obj) -> u64 {
-        if s.0 < self.machine.objects() {
-            self.machine.pending_of(s)
-        } else {
-            0
+        if s.0 >= self.machine.objects() {
+            return 0;
         }
+        self.machine.pending_of(s)
+    }
+
+    // Whether the block has started and not ended.
+    fn is_open_block(self, b: Blk) -> bool {
+        self.is_started(b) && !self.is_ended(b)
     }
 
     /// Whether the run is open.
     pub fn is_open(self, run: Run) -> bool {
         match run {
-            Run::Block(b) => self.is_started(b) && !self.is_ended(b),
+            Run::Block(b) => self.is_open_block(b),
             Run::Source(s) => self.scene.object(s).is_delivering,
         }
     }
@@ -129,16 +141,38 @@ impl<'a> Sight<'a> {
         }
     }
 
-    /// Whether the node is the object, or beneath it.
-    pub fn is_beneath(self, node: Obj, o: Obj) -> bool {
+    // The first such object of the node's chain, which ends in `root`.
+    fn first_above<F: Fn(Obj) -> bool>(self, node: Obj, is_met: F) -> Option<Obj>
+        requires { F.IsAlwaysCallable is_met }
+    {
         let mut at = node;
         for _ in 0..self.plan.objects() {
-            if at == o {
-                return true;
+            if is_met(at) {
+                return Some(at);
+            }
+            if at.0 == 0 {
+                return None;
             }
             at = self.scene.object(at).target;
         }
-        false
+        None
+    }
+
+    // The first such block of the plan.
+    fn first_block<F: Fn(Blk) -> bool>(self, is_met: F) -> Option<Blk>
+        requires { F.IsAlwaysCallable is_met }
+    {
+        for b in 0..self.plan.blocks() {
+            if is_met(Blk(b)) {
+                return Some(Blk(b));
+            }
+        }
+        None
+    }
+
+    /// Whether the node is the object, or beneath it.
+    pub fn is_beneath(self, node: Obj, o: Obj) -> bool {
+        self.first_above(node, |at| at == o).is_some()
     }
 
     /// The first open run beneath the object.
@@ -148,92 +182,50 @@ impl<'a> Sight<'a> {
                 return Some(Run::Source(Obj(s)));
             }
         }
-        for b in 0..self.plan.blocks() {
-            if self.is_open(Run::Block(Blk(b))) {
-                if let Some(node) = self.node_of(Blk(b)) {
-                    if self.is_beneath(node, o) {
-                        return Some(Run::Block(Blk(b)));
-                    }
-                }
-            }
-        }
-        None
+        let b = self.first_block(|b| self.is_open_block(b) && self.stands_beneath(b, o))?;
+        Some(Run::Block(b))
+    }
+
+    // Whether the block was submitted to the object, or beneath it.
+    fn stands_beneath(self, b: Blk, o: Obj) -> bool {
+        self.node_of(b).is_some_and(|node| self.is_beneath(node, o))
+    }
+
+    // Whether the block is open and stands on the object itself.
+    fn is_open_on(self, b: Blk, o: Obj) -> bool {
+        self.node_of(b) == Some(o) && self.is_open_block(b)
     }
 
     /// The first open run on the object itself, a barrier where there is one.
     pub fn open_on(self, o: Obj) -> Option<Blk> {
-        let mut found = None;
-        for b in 0..self.plan.blocks() {
-            if self.node_of(Blk(b)) == Some(o) && self.is_open(Run::Block(Blk(b))) {
-                if self.scene.block(Blk(b)).is_barrier {
-                    return Some(Blk(b));
-                }
-                if found.is_none() {
-                    found = Some(Blk(b));
-                }
-            }
-        }
-        found
+        self.first_block(|b| self.is_open_on(b, o) && self.scene.block(b).is_barrier)
+            .or_else(|| self.first_block(|b| self.is_open_on(b, o)))
     }
 
     /// The first serial queue or source of the node's chain beneath which a run is open, and that run.
     pub fn excluding(self, node: Obj) -> Option<(Obj, Run)> {
-        let mut at = node;
-        for _ in 0..self.plan.objects() {
-            if kind_of(self.plan, at).is_exclusive() {
-                if let Some(run) = self.open_beneath(at) {
-                    return Some((at, run));
-                }
-            }
-            if at.0 == 0 {
-                return None;
-            }
-            at = self.scene.object(at).target;
-        }
-        None
+        let o = self.first_above(node, |at| {
+            kind_of(self.plan, at).is_exclusive() && self.open_beneath(at).is_some()
+        })?;
+        Some((o, self.open_beneath(o)?))
     }
 
-    /// The first object of the node's chain that is inactive, suspended or moving.
+    /// The first object of the node's chain that is inactive, suspended or under way to another target.
     pub fn held(self, node: Obj) -> Option<Obj> {
-        let mut at = node;
-        for _ in 0..self.plan.objects() {
-            let now = self.scene.object(at);
-            if !now.is_active || now.holds > 0 || now.coming.is_some() {
-                return Some(at);
-            }
-            if at.0 == 0 {
-                return None;
-            }
-            at = now.target;
-        }
-        None
+        self.first_above(node, |at| self.scene.object(at).is_held())
     }
 
     /// The first block other than `waiter` that has the act still before it, and has not ended. A cancelled block makes no act.
     pub fn left_to(self, act: Act, waiter: Blk) -> Option<Blk> {
-        for b in 0..self.plan.blocks() {
-            if Blk(b) != waiter && self.has_left(Blk(b), act) {
-                return Some(Blk(b));
-            }
-        }
-        None
+        self.first_block(|b| b != waiter && self.has_left(b, act))
     }
 
     /// The first block other than `waiter` that still signals the semaphore: one that does not wait there before it signals, if there is
     /// one.
     pub fn signaller(self, s: Obj, waiter: Blk) -> Option<Blk> {
-        let mut found = None;
-        for b in 0..self.plan.blocks() {
-            if Blk(b) != waiter && self.has_left(Blk(b), Act::Signal(s)) {
-                if !self.waits_first(Blk(b), s) {
-                    return Some(Blk(b));
-                }
-                if found.is_none() {
-                    found = Some(Blk(b));
-                }
-            }
-        }
-        found
+        let act = Act::Signal(s);
+        self.first_block(|b| b != waiter && self.has_left(b, act) && !self.waits_first(b, s))
+            .or_else(|| self.left_to(act, waiter))
     }
 
     // Whether the block waits at the semaphore now, or before its next signal.
@@ -243,52 +235,37 @@ impl<'a> Sight<'a> {
                 return true;
             }
         }
-        let run = Run::Block(b);
-        for index in self.scene.made(run)..acts_of(self.plan, run) {
-            match act_at(self.plan, run, index) {
-                Some(Act::Wait(other) | Act::WaitFor(other, _)) if other == s => return true,
-                Some(Act::Signal(other)) if other == s => return false,
+        for act in self.acts_left(b) {
+            match *act {
+                Act::Wait(other) | Act::WaitFor(other, _) if other == s => return true,
+                Act::Signal(other) if other == s => return false,
                 _ => {}
             }
         }
         false
     }
 
+    // The acts that the block has not made.
+    fn acts_left(self, b: Blk) -> &'a [Act] {
+        acts_from(self.plan, Run::Block(b), self.scene.block(b).made)
+    }
+
     /// Whether the block has the act still before it, and has not ended.
     pub fn has_left(self, b: Blk, act: Act) -> bool {
         let is_over = self.is_ended(b) || self.is_cancelled(b);
-        !is_over && self.is_left(Run::Block(b), act)
-    }
-
-    // Whether the run has the act still before it.
-    fn is_left(self, run: Run, act: Act) -> bool {
-        let made = self.scene.made(run);
-        for index in made..acts_of(self.plan, run) {
-            if act_at(self.plan, run, index) == Some(act) {
-                return true;
-            }
-        }
-        false
+        !is_over && self.acts_left(b).iter().any(|left| *left == act)
     }
 
     /// The first member of the group that has not ended.
     pub fn member(self, g: Obj) -> Option<Blk> {
-        for b in 0..self.plan.blocks() {
-            if self.scene.block(Blk(b)).group == Some(g) && !self.is_ended(Blk(b)) {
-                return Some(Blk(b));
-            }
-        }
-        None
+        self.first_block(|b| self.scene.block(b).group == Some(g) && !self.is_ended(b))
     }
 
     /// A worker that has no run; 64 where each has one.
     pub fn free_worker(self) -> u8 {
-        for worker in 0..64u8 {
-            if self.scene.run_of(worker).is_none() {
-                return worker;
-            }
-        }
-        64
+        (0..64u8)
+            .find(|worker| self.scene.run_of(*worker).is_none())
+            .unwrap_or(64)
     }
 
     /// Why the block may not start now, as the machine says.
@@ -307,8 +284,7 @@ impl<'a> Sight<'a> {
     pub fn first_value(self, s: Obj) -> u32 {
         match kind_of(self.plan, s) {
             Kind::Semaphore(value) => value,
-            Kind::Serial | Kind::Concurrent | Kind::Group => 0,
-            Kind::Add | Kind::Or | Kind::Replace | Kind::Timer { .. } | Kind::Read => 0,
+            _ => 0,
         }
     }
 }

@@ -4,11 +4,19 @@ ghost use Rattle.gcd_history.specs.History.{IsLawful};
 ghost use Rattle.gcd_machine.specs.Stands.{StandsFor};
 ghost use Rattle.gcd_why.specs.Barred.{IsBarred};
 
-use gcd_cause::{Barred, Scene};
-use gcd_event::Entry;
+use gcd_cause::Scene;
+use gcd_event::{Entry, Event};
 use gcd_machine::Machine;
-use gcd_plan::Plan;
+use gcd_plan::{Plan, Why};
 use std::alloc::AllocError;
+
+/// The first event that is not permitted: its index, from 0, and the first reason why not.
+#[derive(Clone, Copy)]
+pub struct Barred {
+    pub index: u32,
+    pub event: Event,
+    pub reason: Why,
+}
 
 /// Lets a machine and a scene that have taken nothing take the events as long as each is permitted. It tells the first that is
 /// not, and None exactly where each is. An `Err` comes only where memory runs out.

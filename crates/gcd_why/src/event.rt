@@ -4,9 +4,9 @@ ghost use Rattle.gcd_history.specs.History.{IsLawful};
 ghost use Rattle.gcd_machine.specs.Stands.{StandsFor};
 ghost use Rattle.gcd_why.specs.Barred.{IsBarred};
 
-use crate::barred::find_barred;
+use crate::barred::{Barred, find_barred};
 use crate::sentence::Sentence;
-use gcd_cause::{Barred, EventWords, Scene, Sight, in_the_way, why_name};
+use gcd_cause::{EventWords, Scene, Sight, in_the_way};
 use gcd_event::{Entry, Event};
 use gcd_machine::Machine;
 use gcd_plan::Plan;
@@ -35,13 +35,13 @@ fn say<'a>(
 ) -> Result<Sentence<'a>, AllocError>
     ensures file { IfOk result (λ s. s.file.now ≡ file.now) }
 {
-    let way = in_the_way(alloc, sight, barred, last)?;
+    let way = in_the_way(alloc, sight, barred.event, barred.reason, last)?;
     let event = EventWords {
         plan: sight.plan,
         event: barred.event,
     };
-    let (index, name) = (barred.index, why_name(barred.reason));
-    let text = format!(in alloc; "event {index}, {event}, may not come here: {way} ({name})")?;
+    let (index, reason) = (barred.index, barred.reason);
+    let text = format!(in alloc; "event {index}, {event}, may not come here: {way} ({reason:?})")?;
     Sentence::of(alloc, file, index.saturating_add(1), text)
 }
 

@@ -30,8 +30,9 @@ mod script;
 mod sentence;
 mod unread;
 
+pub use barred::Barred;
 pub use event::{EventSentence, why_event};
-pub use gcd_cause::{Barred, WordsCause, why_words};
+pub use gcd_cause::{WordsCause, why_words};
 pub use journal::{journal_cause, why_journal};
 pub use named::{NO_INTAKE, why_unread};
 pub use run::{RunEnd, why_ended, why_run};

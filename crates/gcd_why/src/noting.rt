@@ -2,7 +2,7 @@
 
 use crate::declared::line_of;
 use crate::sentence::Sentence;
-use gcd_cause::{ActWords, Place, Places, Sight, act_at, hold_words, kind_of};
+use gcd_cause::{ActWords, Place, Places, Sight, act_at, hold_words, kind_of, registered_words};
 use gcd_machine::Machine;
 use gcd_plan::{Act, Blk, Kind, Obj, Plan, Run, Why};
 use std::alloc::{AllocError, Global};
@@ -54,49 +54,53 @@ fn has_barriers(plan: &Plan, o: Obj) -> bool {
     o.0 > 0 && kind_of(plan, o).is_concurrent()
 }
 
-// Whether the object is a queue with barriers that a queue or a source has as its first target.
-fn is_fenced_target(plan: &Plan, q: Obj) -> bool {
-    if !has_barriers(plan, q) {
-        return false;
-    }
-    for o in 0..plan.objects() {
-        if plan.first_target(Obj(o)) == q {
-            return true;
+// Whether one of the acts submits a barrier to a queue on which barriers count, and whether one gives an object such a queue as its
+// target.
+fn fences_of(plan: &Plan, acts: &[Act]) -> (bool, bool) {
+    let (mut submits, mut targets) = (false, false);
+    for act in acts {
+        match *act {
+            Act::Barrier(q, _) | Act::BarrierSync(q, _) => {
+                submits = submits | has_barriers(plan, q);
+            }
+            Act::Target(_, q) => targets = targets | has_barriers(plan, q),
+            _ => {}
         }
     }
-    false
+    (submits, targets)
 }
 
-// Whether an act submits a barrier to a queue above another.
-fn has_barrier_above(plan: &Plan) -> bool {
-    for b in 0..plan.blocks() {
-        for act in plan.acts(Run::Block(Blk(b))) {
-            if let Act::Barrier(q, _) | Act::BarrierSync(q, _) = *act {
-                if is_fenced_target(plan, q) {
-                    return true;
-                }
-            }
-        }
+// Whether a barrier may come to a queue beneath which others stand, from the outset or by an act.
+fn may_have_barrier_above(plan: &Plan) -> bool {
+    let (mut is_submitted, mut is_target) = (false, false);
+    for o in 0..plan.objects() {
+        let (_, targets) = fences_of(plan, plan.acts(Run::Source(Obj(o))));
+        is_target = is_target | targets | has_barriers(plan, plan.first_target(Obj(o)));
     }
-    false
+    for b in 0..plan.blocks() {
+        let (submits, targets) = fences_of(plan, plan.acts(Run::Block(Blk(b))));
+        is_submitted = is_submitted | submits;
+        is_target = is_target | targets;
+    }
+    is_submitted && is_target
 }
 
 /// Whether a run that is over may have left something to note. It looks at each object and block of the plan once, at the acts only if a
-/// queue is beneath one that may have barriers, and at no event.
+/// queue other than `root` may have barriers, and at no event.
 pub fn may_have_notes(plan: &Plan, machine: &Machine) -> bool {
-    let mut has_beneath = false;
+    let mut has_fence = false;
     for o in 0..plan.objects() {
         if is_left(plan, machine, Obj(o)) {
             return true;
         }
-        has_beneath = has_beneath | has_barriers(plan, plan.first_target(Obj(o)));
+        has_fence = has_fence | has_barriers(plan, Obj(o));
     }
     for b in 0..plan.blocks() {
         if is_left_out(plan, machine, Blk(b)) {
             return true;
         }
     }
-    plan.limit_room() > 0 || (has_beneath && has_barrier_above(plan))
+    plan.limit_room() > 0 || (has_fence && may_have_barrier_above(plan))
 }
 
 // The acts that submit blocks and strips: of each its place, if there is one.
@@ -227,30 +231,14 @@ impl<'a, 'p> Noting<'a, 'p> {
                 return self.note_unsubmitted("strip", strip.name.as_str(), by.of_strip(a));
             }
         }
-        match self.registered(b)? {
-            Some(text) => self.add(self.left.places.line_of(sight.scene.block(b).by), text),
-            None => self.note_unsubmitted("block", sight.name_of_block(b), by.of_block(b.0)),
+        let name = sight.name_of_block(b);
+        match registered_words(self.alloc, sight, b)? {
+            Some(delay) => {
+                let text = format!(in self.alloc; "{name} was never submitted: {delay}")?;
+                self.add(self.left.places.line_of(sight.scene.block(b).by), text)
+            }
+            None => self.note_unsubmitted("block", name, by.of_block(b.0)),
         }
-    }
-
-    // That what an act registered was never submitted; None if no act has registered the block.
-    fn registered(&self, b: Blk) -> Result<Option<String>, AllocError> {
-        let (sight, alloc) = (self.left.sight, self.alloc);
-        let (name, now) = (sight.name_of_block(b), sight.scene.block(b));
-        if let Some(g) = now.notify {
-            let (group, state) = (sight.name_of_object(g), sight.scene.object(g));
-            let count = state.enters.saturating_add(state.members);
-            let text = format!(in alloc;
-                "{name} was never submitted: group {group} still counts {count}"
-            )?;
-            return Ok(Some(text));
-        }
-        if let Some(first) = now.after {
-            let block = sight.name_of_block(first);
-            let text = format!(in alloc; "{name} was never submitted: {block} has not ended")?;
-            return Ok(Some(text));
-        }
-        Ok(None)
     }
 
     // That the block or the strip of this name was never submitted: no act does it, or the act of a block that made none.
@@ -335,7 +323,8 @@ impl<'a, 'p> Noting<'a, 'p> {
         self.add(self.left.places.line_of(Some(place)), text)
     }
 
-    // That a barrier of the queue would wait, in libdispatch, for the blocks of a queue beneath it too.
+    // That a barrier of the queue would wait, in libdispatch, for the blocks of a queue beneath it too. The targets are those at the
+    // end of the run.
     fn note_barrier(&mut self, q: Obj) -> Result<(), AllocError> {
         let sight = self.left.sight;
         if !has_barriers(sight.plan, q) {

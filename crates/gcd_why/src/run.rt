@@ -129,7 +129,7 @@ impl<'a> Saying<'a> {
 
     // The act that ended the run, and the rule that it breaks.
     fn misused(&mut self, sight: Sight, run: Run, index: u32, code: u8) -> Result<(), AllocError> {
-        let rule = misuse_words(self.alloc, sight, run, index, code)?;
+        let rule = misuse_words(self.alloc, sight, Place { run, index }, code)?;
         let (name, rule_name) = (sight.name_of(run), code_name(code));
         let text = match act_at(sight.plan, run, index) {
             Some(act) => {
