@@ -5,36 +5,34 @@ use Rattle.gcd_plan.specs.declared.numbers.Obj.{Obj}
 use Rattle.gcd_row.specs.declared.view.View.{View}
 use Rattle.gcd_steal.specs.Places.{History, Misses, Since, change}
 use Rattle.gcd_steal.specs.declared.places.Sight.{Sight}
-use Rattle.gcd_steal.specs.Racks.{own_account, sight_of}
+use Rattle.gcd_steal.specs.Racks.{sight_of}
 use Rattle.gcd_steal.specs.declared.bench.Bench.{Bench}
-use Rattle.gcd_steal.specs.declared.deque.Deque.{Deque}
 use Rattle.gcd_steal.proofs.Placing.{since_self}
 use Rattle.gcd_pool.specs.Placing.{SaysBegun, SaysRecorded}
+use Rattle.gcd_pool.specs.Found.{FindsNone}
 use Rattle.gcd_pool.specs.Turns.{FoundNone, HasLaidDown, LaysFoundDown, SaysOut}
 use Rattle.gcd_pool.specs.declared.turn.Turn.{Turn}
 use Rattle.gcd_pool.specs.declared.turn.Turn.TheVariants.{Left, Placed, Ended, Out, Waited, Rested, Stopped}
+use Rattle.gcd_pool.proofs.Found.{found_after, none_after_none}
 
--- with the same deque it has pushed the same
-pub same_deque : (b c : Bench) → c.deque ≡ b.deque → (own_account c).sent ≡ (own_account b).sent
-same_deque b c same = ap (λ (d : Deque). (own_account (record b { deque = d })).sent) same
+-- ## After a look in vain
 
--- after a step with which the bench pushed nothing
-pub laid_after : (a b c : Bench) → (own_account b).sent ≡ (own_account a).sent → HasLaidDown b c → HasLaidDown a c
-laid_after a b c same laid = record { found = laid.found; drain = laid.drain; sent = laid.sent ∙ same; laid = laid.laid }
+pub laid_after : (a b c : Bench) → FindsNone a b → HasLaidDown b c → HasLaidDown a c
+laid_after a b c first laid = record { found = laid.found; drain = laid.drain; took = found_after a b laid.found laid.drain first laid.took; laid = laid.laid }
 
-none_after : (a b c : Bench) (turn : Turn) → (own_account b).sent ≡ (own_account a).sent → FoundNone b c turn → FoundNone a c turn
-none_after a b c Left same none = none
-none_after a b c Placed same none = none
-none_after a b c Ended same none = none
-none_after a b c (Out node) same none = none ∙ same
-none_after a b c Waited same none = none
-none_after a b c Rested same none = none
-none_after a b c Stopped same none = none
+none_after : (a b c : Bench) (turn : Turn) → FindsNone a b → FoundNone b c turn → FoundNone a c turn
+none_after a b c Left first none = none
+none_after a b c Placed first none = none
+none_after a b c Ended first none = none
+none_after a b c (Out node) first none = none_after_none a b c first none
+none_after a b c Waited first none = none
+none_after a b c Rested first none = none
+none_after a b c Stopped first none = none
 
-pub lays_after : (a b c : Bench) (turn : Turn) → (own_account b).sent ≡ (own_account a).sent → LaysFoundDown b c turn → LaysFoundDown a c turn
-lays_after a b c turn same lays = ⊎_elim
-    (λ (laid : HasLaidDown b c). inl (laid_after a b c same laid))
-    (λ (none : FoundNone b c turn). inr (none_after a b c turn same none))
+pub lays_after : (a b c : Bench) (turn : Turn) → FindsNone a b → LaysFoundDown b c turn → LaysFoundDown a c turn
+lays_after a b c turn first lays = ⊎_elim
+    (λ (laid : HasLaidDown b c). inl (laid_after a b c first laid))
+    (λ (none : FoundNone b c turn). inr (none_after a b c turn first none))
     lays
 
 -- ## A Drain that is out

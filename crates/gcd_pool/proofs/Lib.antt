@@ -17,6 +17,8 @@ pub mod Recording
 pub mod Throughs
 pub mod EndPuts
 pub mod Exits
+pub mod Found
 pub mod Laid
 pub mod Stops
 pub mod Ends
+pub mod Waits

@@ -45,6 +45,14 @@ module _ {S : Type 0} (shape : S → Shape) (gives : S → ℕ → Type 0) (b : 
       subst (λ (k : ℕ). Begins v.terms.plan v.seen k n.0 e) (worker ∙ is.number)
       (begins v.terms.plan v.seen w n.0 e (valid_plan shape gives b p is) (lawful_seen shape gives b p is) (sym told))
 
+  -- that nothing may begin there
+  pub begins_none_there : (m : MachineView) (w : ℕ) (n at : Obj) → m ≡ machine_of p → w ≡ worker_number p → n ≡ at
+      → ((plan : PlanView) (h : List Event) → StandsFor m plan h → None ≡ begin_of plan h w n.0) → begin_of (view p).terms.plan (view p).seen (view p).worker at.0 ≡ None
+  begins_none_there m w n at machine worker node tells =
+      let v = view p in
+      let told : begin_of v.terms.plan v.seen w n.0 ≡ None = sym (tells v.terms.plan v.seen (stands_as m machine)) in
+      subst (λ (k : ℕ). begin_of v.terms.plan v.seen k at.0 ≡ None) (worker ∙ is.number) (subst (λ (x : Obj). begin_of v.terms.plan v.seen w x.0 ≡ None) node told)
+
   -- what it chooses
   chosen : (most w from : ℕ) (e : Event) → w ≡ worker_number p → Chooses most (view p).terms.plan (view p).seen w from e → (worker_of e ≡ (view p).worker) × (why (view p).terms.plan (view p).seen e ≡ None) × (is_work e ≡ true)
   chosen most w from e worker c =

@@ -2,8 +2,10 @@ pub mod Admitted
 pub mod Duties
 pub mod Each
 pub mod Hands
+pub mod Found
 pub mod Turns
 pub mod Throughs
+pub mod Waits
 pub mod Placing
 pub mod Works
 pub mod Leads

@@ -1,15 +1,14 @@
 -- What a turn of a worker comes to.
-use Rattle.std.specs.Prelude.{◌≡◌, ◌⊎◌, ℕ, List, ◌∷◌, []}
+use Rattle.std.specs.Prelude.{◌≡◌, ◌⊎◌, ℕ, List}
 use Rattle.gcd_history.specs.Ends.{HasEnded}
 use Rattle.gcd_row.specs.Shapes.{Shape}
 use Rattle.gcd_row.specs.declared.view.View.{View}
-use Rattle.gcd_steal.specs.Deques.{Sends}
-use Rattle.gcd_steal.specs.Drains.{node_of, sight_with}
-use Rattle.gcd_steal.specs.Places.{Gives, Misses, Since}
-use Rattle.gcd_steal.specs.Racks.{own_account, sight_of}
+use Rattle.gcd_steal.specs.Places.{Misses, Since}
+use Rattle.gcd_steal.specs.Racks.{sight_of}
 use Rattle.gcd_steal.specs.declared.bench.Bench.{Bench}
 use Rattle.gcd_steal.specs.declared.drain.Drain.{Drain}
 use Rattle.gcd_steal.specs.declared.places.Sight.{Sight}
+use Rattle.gcd_pool.specs.Found.{HasFound, HasFoundNone, IsLaidDown}
 use Rattle.gcd_pool.specs.Hands.{IsFresh}
 use Rattle.gcd_pool.specs.declared.turn.Turn.{Turn}
 use Rattle.gcd_pool.specs.declared.turn.Turn.TheVariants.{Left, Placed, Ended, Out, Waited, Rested, Stopped}
@@ -36,15 +35,11 @@ SaysOut Waited b c = Unit {0}
 SaysOut Rested b c = Unit {0}
 SaysOut Stopped b c = Unit {0}
 
--- the Drain was laid into its sleeping place, or put at the back of the bench's own deque
-abbrev pub IsLaidDown : Bench → Drain → Bench → Type 0
-IsLaidDown b d c = Gives (node_of d).0 (sight_with d) (sight_of c) ⊎ Sends (own_account b) (d ∷ []) (own_account c)
-
--- a Drain that was found, without any being pushed, was laid down
+-- one Drain was found, and that one was laid down
 pub record HasLaidDown (b c : Bench) : Type 0 where
   pub found : Bench
   pub drain : Drain
-  pub sent : (own_account found).sent ≡ (own_account b).sent
+  pub took : HasFound b drain found
   pub laid : IsLaidDown found drain c
 
 -- none was found, nor pushed: the answer tells that the node's Drain is out
@@ -52,7 +47,7 @@ abbrev pub FoundNone : Bench → Bench → Turn → Type 0
 FoundNone b c Left = ⊥
 FoundNone b c Placed = ⊥
 FoundNone b c Ended = ⊥
-FoundNone b c (Out node) = (own_account c).sent ≡ (own_account b).sent
+FoundNone b c (Out node) = (tries : ℕ) × HasFoundNone tries b c
 FoundNone b c Waited = ⊥
 FoundNone b c Rested = ⊥
 FoundNone b c Stopped = ⊥

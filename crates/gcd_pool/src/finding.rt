@@ -1,9 +1,10 @@
 // Where a worker finds a Drain.
-ghost use Rattle.std.specs.Prelude.{◌≡◌, ◌≢◌, ◌<◌, ◌≤◌, IfNone, IfSome, IsTrue};
+ghost use Rattle.std.specs.Prelude.{◌≡◌, ◌≢◌, ℕ, ◌<◌, ◌≤◌, IfNone, IfSome, IsTrue};
 ghost use Rattle.gcd_plan.specs.Kinds.{is_node};
 ghost use Rattle.gcd_plan.specs.Limits.{max_workers};
 ghost use Rattle.gcd_steal.specs.Places.{Misses};
-ghost use Rattle.gcd_steal.specs.Racks.{IsBenchOf, IsRackDrain, number_of, own_account, plan_of, sight_of};
+ghost use Rattle.gcd_steal.specs.Racks.{IsBenchOf, IsRackDrain, number_of, plan_of, sight_of};
+ghost use Rattle.gcd_pool.specs.Found.{HasFound, HasFoundNone};
 
 use gcd_plan::Obj;
 use gcd_steal::{Bench, Drain, Rack};
@@ -30,8 +31,9 @@ fn steal_round<R: Wait>(rt: &R, rack: &Rack, bench: &mut Bench) -> Option<Drain>
     ensures bench { IsBenchOf rack.now bench.new }
     ensures number { number_of bench.new ≡ number_of bench.old }
     ensures sight { sight_of bench.new ≡ sight_of bench.old }
-    ensures sent { (own_account bench.new).sent ≡ (own_account bench.old).sent }
     ensures drain { IfSome result (λ d. IsRackDrain rack.now d) }
+    ensures found { IfSome result (λ d. HasFound bench.old d bench.new) }
+    ensures none { IfNone result ((tries : ℕ) × HasFoundNone tries bench.old bench.new) }
 {
     let benches = rack.benches();
     let own = bench.number();
@@ -51,8 +53,9 @@ pub fn find_drain<R: Wait>(rt: &R, rack: &Rack, bench: &mut Bench, node: Obj) ->
     requires node { IsTrue (is_node (plan_of rack.now) node.0) }
     ensures bench { IsBenchOf rack.now bench.new }
     ensures number { number_of bench.new ≡ number_of bench.old }
-    ensures sent { (own_account bench.new).sent ≡ (own_account bench.old).sent }
     ensures drain { IfSome result (λ d. IsRackDrain rack.now d) }
+    ensures found { IfSome result (λ d. HasFound bench.old d bench.new) }
+    ensures none { IfNone result ((tries : ℕ) × HasFoundNone tries bench.old bench.new) }
     ensures out { IfNone result (Misses node.0 (sight_of bench.old) (sight_of bench.new)) }
 {
     if let Some(drain) = rack.pop(bench) {

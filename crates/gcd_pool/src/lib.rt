@@ -10,7 +10,7 @@
 //! |---|---|
 //! | `Leave` | it leaves: it has seen that the run is quiescent, halted or full |
 //! | `Record` | it puts the event. Before an End it runs the body, unless the block is cancelled, before a DeliverEnd it calls the handler ([`RunCells`]), and it puts that event until it stands or the run is halted or full |
-//! | `Begin` | it wakes the Drain of the event's node, and puts the event with it ([`begin`]). Where that Drain does not sleep it takes another: the front of its own deque, or else of another's from the next number on and round, or else the node's own if it sleeps by now; with that it begins what may begin on that Drain's node ([`gcd_machine::Machine::begin_on`]). Then it lays the Drain down: at the back of its deque where a block waits on a concurrent queue and the team has another hand, and else asleep |
+//! | `Begin` | it wakes the Drain of the event's node, and puts the event with it. Where that Drain does not sleep it takes another: the front of its own deque, or else of another's from the next number on and round, or else the node's own if it sleeps by now; with that it begins what may begin on that Drain's node ([`gcd_machine::Machine::begin_on`]). Then it lays the Drain down: at the back of its deque where a block waits on a concurrent queue and the team has another hand, and else asleep |
 //! | `Rest` | it waits ([`Idle`]), and asks again once the row has grown |
 //!
 //! A helper that has no run begins none, and waits, while others' runs begin and end within about a microsecond.
@@ -59,8 +59,9 @@
 //! |---|---|
 //! | [`duty_of`] | the worker's choice (`choice_of` of `gcd_history`), and to leave exactly where the run has ended |
 //! | [`begin`] | as [`gcd_row::RowBoard::put`]; it asks for the Drain of the event's node |
-//! | [`begin_near`], [`take_turn`] | the hand is still one of the pool; what it adds is work of its worker; a Drain that was found is laid down, asleep or at the back of the bench's deque (`LaysDown`) |
+//! | [`begin_near`], [`take_turn`] | the hand is still one of the pool; what it adds is work of its worker; of its looks for a Drain at most the last finds one, and that one is laid down, asleep or at the back of the bench's deque (`LaysDown`, `HasFound` of `specs/Found`) |
 //! | [`take_turn`], [`free_turn`] | of the worker's own events exactly one is new where the answer is `Placed` or `Ended`, with which no run or one ends, and else none (`SaysPlaced` of `specs/Placing`); where it is `Rested` the run goes on and no event of the worker is permitted (`SaysRested`); where it is `Out` the call wrote to the place of that node's Drain, which did not sleep there (`SaysOut`) |
+//! | [`begin_near`], [`take_turn`], [`free_turn`] | where the answer is `Waited`, an event of the worker that was permitted is not permitted any more, or the row is full, or nothing may begin on the node of a Drain that was found and laid down (`SaysWaited` of `specs/Waits`), or, of `free_turn` alone, the row has three events more than at the last look |
 //! | [`begin_near`] | it answers `Placed`, with an event that begins a run, `Waited` or `Out`, of the node that was asked for (`SaysBegun`, `SaysOut`) |
 //! | [`record_own`] | it answers `Placed` or `Ended` where this event is the one that is new; `Left` where the run has ended, `Waited` where the event is not permitted any more, and `Stopped` where the team was stopped, and none is new (`SaysRecorded`) |
 //! | [`Crew::serve`] of a [`Pool`] | the hand is still one of the pool, of the same worker and bench, and has seen no less (`Serving` of `specs/Hands`) |
@@ -74,9 +75,9 @@
 //! # What it does not say
 //!
 //! That a helper ever places an event, that it has a thread of its own, or that it returns: each turn promises what it leaves. Nor when a
-//! team stops, nor that an `Err` comes of memory or of a thread alone: the flag that tells so is a plain word. Nor why a [`take_turn`],
-//! [`free_turn`] or [`begin_near`] answers `Waited`, with which no event of the worker is new. That [`begin_near`] and [`take_turn`] lay a
-//! Drain that they find down is a clause (`LaysDown` of `specs/Turns`); no clause follows a Drain from there.
+//! team stops, nor that an `Err` comes of memory or of a thread alone: the flag that tells so is a plain word. So a turn that answers
+//! `Stopped` has no cause in its clauses. That [`begin_near`] and [`take_turn`] find at most one Drain, and lay it down, is a
+//! clause (`LaysDown` of `specs/Turns`); no clause follows a Drain from there.
 #![tactic(auto)]
 
 mod admit_cells;

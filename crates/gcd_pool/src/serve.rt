@@ -1,11 +1,12 @@
 // The turns of a helper.
-ghost use Rattle.std.specs.Prelude.{◌≡◌, ℕ, true, List, MatchOption};
+ghost use Rattle.std.specs.Prelude.{◌≡◌, ◌⊎◌, ◌+◌, ◌≤◌, ℕ, true, List, length, MatchOption};
 ghost use Rattle.gcd_history.specs.Ends.{HasEnded};
 ghost use Rattle.gcd_row.specs.Passes.{slots, view};
 ghost use Rattle.gcd_row.specs.declared.view.View.{View};
 ghost use Rattle.gcd_pool.specs.Hands.{IsFresh, IsReady, Serving};
 ghost use Rattle.gcd_pool.specs.Placing.{HasPlacedNone, SaysPlaced, SaysRested};
 ghost use Rattle.gcd_pool.specs.Turns.{AfterTurn, SaysOut};
+ghost use Rattle.gcd_pool.specs.Waits.{SaysWaited};
 
 use crate::hand::{Hand, Pool};
 use crate::idle::Idle;
@@ -104,6 +105,7 @@ fn are_quick<S: RunCells>(pool: &Pool<S>, hand: &mut Hand<S>, seen: u32) -> bool
     ensures serving { Serving S.shape S.gives pool.now hand.old hand.new }
     ensures none { HasPlacedNone (view hand.old.pass) (view hand.new.pass) }
     ensures bench { hand.new.bench ≡ hand.old.bench }
+    ensures quick { result ≡ true → seen + 3 ≤ length (view hand.new.pass).seen }
     ensures fresh { IsFresh S.shape (view hand.new.pass) (slots hand.new.pass) }
 {
     linger();
@@ -128,6 +130,7 @@ pub fn free_turn<S: RunCells, R: Wait>(
     ensures placed { SaysPlaced result (view hand.old.pass) (view hand.new.pass) }
     ensures rested { SaysRested result (view hand.new.pass) }
     ensures out { SaysOut result hand.old.bench hand.new.bench }
+    ensures waits { (seen + 3 ≤ length (view hand.new.pass).seen) ⊎ SaysWaited result (view hand.old.pass) (view hand.new.pass) hand.old.bench hand.new.bench }
     ensures after { AfterTurn S.shape result (view hand.new.pass) (slots hand.new.pass) }
 {
     let quick = are_quick(pool, hand, seen);

@@ -4,6 +4,7 @@ ghost use Rattle.gcd_row.specs.Passes.{slots, view};
 ghost use Rattle.gcd_pool.specs.Hands.{IsReady, Serving};
 ghost use Rattle.gcd_pool.specs.Placing.{SaysPlaced, SaysRested};
 ghost use Rattle.gcd_pool.specs.Turns.{AfterTurn, LaysDown, SaysOut};
+ghost use Rattle.gcd_pool.specs.Waits.{SaysWaited};
 ghost use Rattle.gcd_pool.specs.Works.{AddsWork};
 
 use crate::drains::begin_chosen;
@@ -25,7 +26,8 @@ pub enum Turn {
     Ended,
     /// None was placed, and the Drain of this node is out: it did not sleep at a moment of the call.
     Out(Obj),
-    /// None was placed.
+    /// None was placed: another event came first, the row is full, the worker may begin nothing on the node of the Drain that it found, or
+    /// it left the row to others ([`free_turn`](crate::free_turn)).
     Waited,
     /// None was placed: no event of the worker is permitted, though the run goes on.
     Rested,
@@ -54,6 +56,7 @@ pub fn take_turn<S: RunCells, R: Wait>(
     ensures after { AfterTurn S.shape result (view hand.new.pass) (slots hand.new.pass) }
     ensures out { SaysOut result hand.old.bench hand.new.bench }
     ensures laid { LaysDown hand.old.bench hand.new.bench result }
+    ensures waits { SaysWaited result (view hand.old.pass) (view hand.new.pass) hand.old.bench hand.new.bench }
 {
     let most = pool.board.most();
     match duty_of(most, hand.pass.machine(), hand.pass.worker(), from) {

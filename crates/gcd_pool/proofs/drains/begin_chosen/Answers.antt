@@ -1,14 +1,20 @@
-use Rattle.std.proofs.Common.{inl}
+use Rattle.std.proofs.Common.{inl, inr, subst, sym}
+use Rattle.gcd_plan.specs.declared.numbers.Obj.{Obj}
 use Rattle.gcd_row.specs.Passes.{view}
-use Rattle.gcd_pool.proofs.Laid.{lays_after, out_further, same_deque, with_drain}
+use Rattle.gcd_steal.specs.Drains.{sight_with}
+use Rattle.gcd_steal.specs.Places.{Takes}
+use Rattle.gcd_steal.specs.Racks.{sight_of}
+use Rattle.gcd_pool.proofs.Found.{found_at_once}
+use Rattle.gcd_pool.proofs.Laid.{lays_after, out_further, with_drain}
+use Rattle.gcd_pool.proofs.Waits.{barred_waits_for, waits_after}
 use Rattle.gcd_pool.proofs.drains.begin_chosen.Goals as goal
 
 pub returns-in-Some-clause-laid : goal.returns-in-Some-clause-laid
-returns-in-Some-clause-laid g c = inl (record { found = c.wake.new.bench; drain = c.in-Some.drain; sent = same_deque c.args.hand.now.bench c.wake.new.bench c.wake.ensures.same.1; laid = c.begin_with.ensures.laid })
+returns-in-Some-clause-laid g c = inl (record { found = c.wake.new.bench; drain = c.in-Some.drain; took = found_at_once c.args.hand.now.bench c.wake.new.bench c.in-Some.drain (inr (inr (c.wake.ensures.same, subst (λ (o : Obj). Takes o.0 (sight_of c.args.hand.now.bench) (sight_with c.in-Some.drain)) (sym c.in-Some.ensures.drain.1) c.in-Some.ensures.asleep.0, c.in-Some.ensures.asleep.1))); laid = c.begin_with.ensures.laid })
 
 pub returns-in-None-clause-laid : goal.returns-in-None-clause-laid
 returns-in-None-clause-laid g c =
-    lays_after c.args.hand.now.bench c.wake.new.bench c.begin_near.new.hand.bench c.begin_near.result (same_deque c.args.hand.now.bench c.wake.new.bench c.wake.ensures.same.1) c.begin_near.ensures.laid
+    lays_after c.args.hand.now.bench c.wake.new.bench c.begin_near.new.hand.bench c.begin_near.result (inr (inr (c.args.node.0, c.wake.ensures.same, c.in-None.ensures.awake.0))) c.begin_near.ensures.laid
 
 pub returns-in-Some-clause-begun : goal.returns-in-Some-clause-begun
 returns-in-Some-clause-begun g c = c.begin_with.ensures.begun c.args.node
@@ -18,3 +24,11 @@ returns-in-Some-clause-out g c = with_drain c.begin_with.result (view c.args.han
 
 pub returns-in-None-clause-out : goal.returns-in-None-clause-out
 returns-in-None-clause-out g c = out_further c.begin_near.result c.args.node.0 c.args.hand.now.bench c.wake.new.bench c.begin_near.new.hand.bench c.in-None.ensures.awake.0 c.begin_near.ensures.out
+
+pub returns-in-Some-clause-waits : goal.returns-in-Some-clause-waits
+returns-in-Some-clause-waits g c =
+    barred_waits_for c.begin_with.result (view c.args.hand.now.pass) (view c.begin_with.new.hand.pass) c.args.hand.now.bench c.begin_with.new.hand.bench c.begin_with.ensures.barred
+
+pub returns-in-None-clause-waits : goal.returns-in-None-clause-waits
+returns-in-None-clause-waits g c =
+    waits_after c.begin_near.result (view c.args.hand.now.pass) (view c.begin_near.new.hand.pass) c.args.hand.now.bench c.wake.new.bench c.begin_near.new.hand.bench (inr (inr (c.args.node.0, c.wake.ensures.same, c.in-None.ensures.awake.0))) c.begin_near.ensures.waits

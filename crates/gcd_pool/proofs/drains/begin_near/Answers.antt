@@ -5,7 +5,8 @@ use Rattle.gcd_refinement.specs.MachineView.{MachineView}
 use Rattle.gcd_row.specs.Passes.{view}
 use Rattle.gcd_pool.proofs.Laid.{missed_out, with_drain}
 use Rattle.gcd_pool.proofs.Placing.{begins_none, begins_out}
-use Rattle.gcd_pool.proofs.Told.{begins_there, machine_plan}
+use Rattle.gcd_pool.proofs.Told.{begins_none_there, begins_there, machine_plan}
+use Rattle.gcd_pool.proofs.Waits.{barred_waits_for, none_waits, out_waits, waits_after}
 use Rattle.gcd_pool.proofs.drains.begin_near.Goals as goal
 
 pub begin_on-requires : goal.begin_on-requires
@@ -38,7 +39,7 @@ begin_with-requires-clause-work g c =
     c.machine.ensures c.worker-worker.ensures c.in-Some-begin_on.ensures).work
 
 pub returns-in_default-clause-laid : goal.returns-in_default-clause-laid
-returns-in_default-clause-laid g c = inr c.find_drain.ensures.sent
+returns-in_default-clause-laid g c = inr c.in_default.ensures.none
 
 pub returns-in_default-clause-begun : goal.returns-in_default-clause-begun
 returns-in_default-clause-begun g c = begins_out c.args.node (view c.args.hand.now.pass) (view c.args.hand.now.pass) refl
@@ -47,7 +48,7 @@ pub returns-in_default-clause-out : goal.returns-in_default-clause-out
 returns-in_default-clause-out g c = missed_out c.args.node c.args.hand.now.bench c.find_drain.new.bench c.in_default.ensures.out
 
 pub returns-in-Some-begin_on-clause-laid : goal.returns-in-Some-begin_on-clause-laid
-returns-in-Some-begin_on-clause-laid g c = inl (record { found = c.find_drain.new.bench; drain = c.in-Some.drain; sent = c.find_drain.ensures.sent; laid = c.begin_with.ensures.laid })
+returns-in-Some-begin_on-clause-laid g c = inl (record { found = c.find_drain.new.bench; drain = c.in-Some.drain; took = c.in-Some.ensures.found; laid = c.begin_with.ensures.laid })
 
 pub returns-in-Some-begin_on-clause-begun : goal.returns-in-Some-begin_on-clause-begun
 returns-in-Some-begin_on-clause-begun g c = c.begin_with.ensures.begun c.args.node
@@ -56,7 +57,7 @@ pub returns-in-Some-begin_on-clause-out : goal.returns-in-Some-begin_on-clause-o
 returns-in-Some-begin_on-clause-out g c = with_drain c.begin_with.result (view c.args.hand.now.pass) (view c.begin_with.new.hand.pass) c.args.hand.now.bench c.begin_with.new.hand.bench c.begin_with.ensures.begun
 
 pub returns-in-None-clause-laid : goal.returns-in-None-clause-laid
-returns-in-None-clause-laid g c = inl (record { found = c.find_drain.new.bench; drain = c.in-Some.drain; sent = c.find_drain.ensures.sent; laid = inl (search rules) })
+returns-in-None-clause-laid g c = inl (record { found = c.find_drain.new.bench; drain = c.in-Some.drain; took = c.in-Some.ensures.found; laid = inl (c.sleep.ensures.same, search rules) })
 
 pub returns-in-None-clause-begun : goal.returns-in-None-clause-begun
 returns-in-None-clause-begun g c = begins_none c.args.node (view c.args.hand.now.pass) (view c.args.hand.now.pass) refl
@@ -65,3 +66,16 @@ pub returns-in-None-clause-out : goal.returns-in-None-clause-out
 returns-in-None-clause-out g c =
     with_drain _ (view c.args.hand.now.pass) (view c.args.hand.now.pass) c.args.hand.now.bench c.sleep.new.bench
     (λ node. begins_none node (view c.args.hand.now.pass) (view c.args.hand.now.pass) refl)
+
+pub returns-in_default-clause-waits : goal.returns-in_default-clause-waits
+returns-in_default-clause-waits g c = out_waits c.args.node (view c.args.hand.now.pass) (view c.args.hand.now.pass) c.args.hand.now.bench c.find_drain.new.bench
+
+pub returns-in-Some-begin_on-clause-waits : goal.returns-in-Some-begin_on-clause-waits
+returns-in-Some-begin_on-clause-waits g c =
+    barred_waits_for c.begin_with.result (view c.args.hand.now.pass) (view c.begin_with.new.hand.pass) c.args.hand.now.bench c.begin_with.new.hand.bench c.begin_with.ensures.barred
+
+pub returns-in-None-clause-waits : goal.returns-in-None-clause-waits
+returns-in-None-clause-waits g c =
+    none_waits (view c.args.hand.now.pass) (view c.args.hand.now.pass) c.args.hand.now.bench c.sleep.new.bench
+    (record { found = c.find_drain.new.bench; drain = c.in-Some.drain; took = c.in-Some.ensures.found; laid = inl (c.sleep.ensures.same, search rules) })
+    (begins_none_there g.S.Slot.shape g.S.Slot.gives c.args.pool.now.board.now c.args.hand.now.pass c.requires.ready.of.pass c.machine.result.now c.worker-worker.result c.node.result _ c.machine.ensures c.worker-worker.ensures c.node.ensures c.in-None.ensures)

@@ -3,6 +3,7 @@ use Rattle.std.proofs.Common.{refl}
 use Rattle.gcd_row.specs.Passes.{view}
 use Rattle.gcd_pool.proofs.Placing.{begun_placed, begun_rests, leaves_placed, leaves_rested, recorded_placed, recorded_rests, rests_placed}
 use Rattle.gcd_pool.proofs.Told.{to_begin, to_leave, to_record, to_rest}
+use Rattle.gcd_pool.proofs.Waits.{leaves_waits, recorded_waits, rests_waits}
 use Rattle.gcd_pool.proofs.turn.take_turn.Goals as goal
 
 pub record_own-requires-clause-worker : goal.record_own-requires-clause-worker
@@ -65,3 +66,14 @@ returns-in-Record-clause-out g c =
 
 pub returns-in-Rest-clause-out : goal.returns-in-Rest-clause-out
 returns-in-Rest-clause-out g c = rests_out c.args.hand.now.bench c.args.hand.now.bench
+
+pub returns-in-Leave-clause-waits : goal.returns-in-Leave-clause-waits
+returns-in-Leave-clause-waits g c = leaves_waits (view c.args.hand.now.pass) (view c.args.hand.now.pass) c.args.hand.now.bench c.args.hand.now.bench
+
+pub returns-in-Record-clause-waits : goal.returns-in-Record-clause-waits
+returns-in-Record-clause-waits g c =
+    let chosen = to_record g.S.Slot.shape g.S.Slot.gives c.args.pool.now.board.now c.args.hand.now.pass c.requires.of.pass c.machine.result.now c.most-most.result c.worker.result c.args.from c.in-Record.e c.machine.ensures c.most-most.ensures c.worker.ensures c.in-Record.ensures in
+    recorded_waits c.in-Record.e c.record_own.result (view c.args.hand.now.pass) (view c.record_own.new.hand.pass) c.args.hand.now.bench c.record_own.new.hand.bench chosen.0 chosen.1 c.record_own.ensures.serving.view c.record_own.ensures.recorded
+
+pub returns-in-Rest-clause-waits : goal.returns-in-Rest-clause-waits
+returns-in-Rest-clause-waits g c = rests_waits (view c.args.hand.now.pass) (view c.args.hand.now.pass) c.args.hand.now.bench c.args.hand.now.bench
