@@ -27,34 +27,38 @@ use Rattle.gcd_plan.specs.declared.work.Work.{Work}
 use Rattle.gcd_plan.proofs.Places.{slice_get_some}
 use Rattle.gcd_script.specs.declared.line.Line.{Line}
 use Rattle.gcd_script.specs.declared.line.Line.TheVariants.{DeclareBlock, OpenMain, AddAct}
-use Rattle.gcd_script.specs.declared.meaning.Meaning.TheVariants.{File, Block}
+use Rattle.gcd_builder.specs.declared.meaning.Meaning.TheVariants.{File, Block}
 use Rattle.gcd_script.specs.declared.refusal.Refusal.{Refusal}
 use Rattle.gcd_script.specs.declared.refusal.Refusal.TheVariants.{NoForm, BadName, UnknownName, Repeated, PastLimit, NotOneMain}
 use Rattle.gcd_script.specs.BigScript.{big_name, big_start, big_block, big_queue_at, big_queue, big_act, big_head, big_lines, big_script}
-use Rattle.gcd_script.specs.Changes.{change, after, with_block, with_act}
+use Rattle.gcd_builder.specs.Changes.{with_block, with_act}
+use Rattle.gcd_script.specs.Changes.{change, after}
 use Rattle.gcd_script.specs.Declarations.{work_line, work, one_of, range}
 use Rattle.gcd_script.specs.Acts.{act_line}
 use Rattle.gcd_script.specs.Codes.{refusal_code}
-use Rattle.gcd_script.specs.Drafts.{DraftView, empty_draft, counted, new_block}
+use Rattle.gcd_builder.specs.Changes.{new_block}
+use Rattle.gcd_script.specs.Drafts.{DraftView, empty_draft, counted}
 use Rattle.gcd_script.specs.Faults.{is_skipped, line_meant, after_line, going_on, draft_after, ended, fault_of}
 use Rattle.gcd_script.specs.Forms.{form_of}
-use Rattle.gcd_script.specs.Judged.{judged, line_of, is_free, is_unapplied, has_room, is_untaken}
+use Rattle.gcd_builder.specs.Taken.{is_free, is_unapplied}
+use Rattle.gcd_script.specs.Judged.{judged, line_of, has_room, is_untaken}
 use Rattle.gcd_script.specs.Keywords.{counts}
 use Rattle.gcd_script.specs.Lines.{words_of, is_printable}
 use Rattle.gcd_script.specs.Meant.{Meant, meant, then_meant, both, must}
-use Rattle.gcd_script.specs.Names.{meaning_among, meaning_of, is_unused}
-use Rattle.gcd_script.specs.Sound.{IsDraft, IsBody}
+use Rattle.gcd_builder.specs.Names.{meaning_among, meaning_of, is_unused}
+use Rattle.gcd_builder.specs.Bodies.{IsBody}
+use Rattle.gcd_script.specs.Sound.{IsDraft}
 use Rattle.gcd_script.specs.Words.{number, file, block, queue, as_file, as_block, as_object}
 use Rattle.gcd_script.proofs.BigWords.{block_words, block_prints, act_words, name_prints, joined_prints, decimal_pass, is_solid, AllPrint, lines_again}
-use Rattle.gcd_script.proofs.BlockActs as block_acts
-use Rattle.gcd_script.proofs.Declares.{block_declares, same_meanings}
-use Rattle.gcd_script.proofs.Inserts.{fit_from}
+use Rattle.gcd_builder.proofs.BlockActs as block_acts
+use Rattle.gcd_builder.proofs.Declares.{block_declares, same_meanings}
+use Rattle.gcd_builder.proofs.Inserts.{fit_from}
 use Rattle.gcd_script.proofs.Numbers.{number_in}
-use Rattle.gcd_script.proofs.Places.{same_bytes, bytes_same}
+use Rattle.gcd_builder.proofs.Places.{same_bytes, bytes_same}
 use Rattle.gcd_script.proofs.Reading.{counted_sound, lines_sound}
 use Rattle.gcd_script.proofs.RightLines.{line_right, change_sound, empty_sound}
-use Rattle.gcd_script.proofs.Submitted.{any_counts, one_count}
-use Rattle.gcd_script.proofs.Valid.{block_submits}
+use Rattle.gcd_builder.proofs.Submitted.{any_counts, one_count}
+use Rattle.gcd_builder.proofs.Valid.{block_submits}
 
 -- a line whose words are known, and mean something
 right_line : (d : DraftView) (bytes first : List ℕ) (words : List (List ℕ)) (line : Line (List ℕ)) → is_printable bytes ≡ true → words_of bytes ≡ first ∷ words → is_skipped (first ∷ words) ≡ false → line_of d (first ∷ words) ≡ Ok line → after_line d bytes ≡ Ok (after line d)

@@ -10,17 +10,17 @@ use Rattle.gcd_plan.specs.Validity.{IsPlan, is_declared}
 use Rattle.gcd_plan.specs.declared.kind.Kind.{Kind}
 use Rattle.gcd_plan.specs.declared.numbers.Blk.{Blk}
 use Rattle.gcd_plan.specs.declared.numbers.Obj.{Obj}
-use Rattle.gcd_script.specs.declared.meaning.Meaning.{Meaning}
-use Rattle.gcd_script.specs.declared.meaning.Meaning.TheVariants.{File, Object, Block, Strip}
+use Rattle.gcd_builder.specs.declared.meaning.Meaning.{Meaning}
+use Rattle.gcd_builder.specs.declared.meaning.Meaning.TheVariants.{File, Object, Block, Strip}
 use Rattle.gcd_script.specs.declared.refusal.Refusal.TheVariants.{UnknownName, OtherKind}
-use Rattle.gcd_script.specs.Names.{place_of, meaning_among, meaning_of}
+use Rattle.gcd_builder.specs.Names.{place_of, meaning_among, meaning_of}
 use Rattle.gcd_script.specs.Words.{known, file, block, object, object_but_root, as_file, as_block, as_object, but_root, strip, as_strip}
 use Rattle.gcd_script.proofs.Inversions.{follows}
-use Rattle.gcd_script.proofs.Places.{place_within, place_above, place_stands}
+use Rattle.gcd_builder.proofs.Places.{place_within, place_above, place_stands}
 use Rattle.gcd_plan.specs.Names.{is_name}
 use Rattle.gcd_plan.specs.Made.{is_made}
 use Rattle.gcd_plan.proofs.Places.{slice_get_some}
-use Rattle.gcd_script.proofs.MadeNames.{named_not_made}
+use Rattle.gcd_builder.proofs.MadeNames.{named_not_made}
 use Rattle.std.proofs.lemmas.Option.{same_Some, slice_get-map}
 
 -- where a meaning comes from

@@ -7,7 +7,7 @@ use Rattle.std.proofs.lemmas.Fmt.{decimal_is_IsNumeral}
 use Rattle.gcd_text.specs.Numbers.{number_end}
 use Rattle.gcd_script.specs.declared.refusal.Refusal.TheVariants.{BadNumber}
 use Rattle.gcd_script.specs.Words.{number, is_number}
-use Rattle.gcd_script.proofs.Places.{same_bytes, bytes_same}
+use Rattle.gcd_builder.proofs.Places.{same_bytes, bytes_same}
 
 -- the value of what is written
 value_is : (word : List ℕ) (n : ℕ) → word ≡ decimal n → n < number_end → digits_value 10 word ≡ n

@@ -26,7 +26,7 @@ use Rattle.gcd_script.specs.declared.line.Line.{Line}
 use Rattle.gcd_script.specs.declared.line.Line.TheVariants.{AddAct}
 use Rattle.gcd_script.specs.declared.refusal.Refusal.TheVariants.{NoForm}
 use Rattle.gcd_script.specs.Acts.{act_line, submitting, submit_act, group_submitting, group_submit_act, asked_of, acting, object_act, waited_of, waiting, limited_act, target_act, merge_act, apply_act, acting_on, block_act, notify_block_act}
-use Rattle.gcd_script.specs.Asked.{asks}
+use Rattle.gcd_builder.specs.Asked.{asks}
 use Rattle.gcd_script.specs.Drafts.{DraftView}
 use Rattle.gcd_script.specs.Meant.{Meant, both}
 use Rattle.gcd_script.specs.Sound.{Fits}

@@ -20,28 +20,33 @@ use Rattle.gcd_script.specs.declared.line.Line.{Line}
 use Rattle.gcd_script.specs.declared.line.Line.TheVariants.{DeclareFile, DeclareObject, DeclareBlock, SetUntil, SetCancel, OpenHandler, OpenMain, AddAct, DeclareIntake, DeclareStrip}
 use Rattle.gcd_script.specs.declared.refusal.Refusal.TheVariants.{NoForm, Repeated, InHandler, PastLimit}
 use Rattle.gcd_script.specs.Acts.{submit_act, group_submit_act, object_act, limited_act, target_act, merge_act, apply_act, block_act, notify_block_act}
-use Rattle.gcd_script.specs.Changes.{change, new_object}
-use Rattle.gcd_script.specs.Drafts.{DraftView, empty_draft, new_block}
+use Rattle.gcd_builder.specs.Changes.{new_object}
+use Rattle.gcd_script.specs.Changes.{change}
+use Rattle.gcd_builder.specs.Changes.{new_block}
+use Rattle.gcd_script.specs.Drafts.{DraftView, empty_draft}
 use Rattle.gcd_script.specs.Forms.{line_by, form_of}
-use Rattle.gcd_script.specs.Judged.{is_free, is_untaken, is_allowed, has_room, judged, line_of}
+use Rattle.gcd_builder.specs.Taken.{is_free}
+use Rattle.gcd_script.specs.Judged.{is_untaken, is_allowed, has_room, judged, line_of}
 use Rattle.gcd_script.specs.Keywords.{keyword_of}
-use Rattle.gcd_script.specs.Sound.{IsDraft, IsRight, IsBody, Fits}
-use Rattle.gcd_script.proofs.BlockActs as block_acts
-use Rattle.gcd_script.proofs.Growth.{Grows, has_kind_grows}
-use Rattle.gcd_script.proofs.Inserts.{fit_from}
+use Rattle.gcd_builder.specs.Bodies.{IsBody}
+use Rattle.gcd_script.specs.Sound.{IsDraft, IsRight, Fits}
+use Rattle.gcd_builder.proofs.BlockActs as block_acts
+use Rattle.gcd_builder.proofs.Empty.{empty_valid}
+use Rattle.gcd_builder.proofs.Growth.{Grows, has_kind_grows}
+use Rattle.gcd_builder.proofs.Inserts.{fit_from}
 use Rattle.gcd_script.proofs.Inversions.{follows}
-use Rattle.gcd_script.proofs.ObjectChanges.{source_stands}
-use Rattle.gcd_script.proofs.Places.{same_bytes}
+use Rattle.gcd_builder.proofs.ObjectChanges.{source_stands}
+use Rattle.gcd_builder.proofs.Places.{same_bytes}
 use Rattle.gcd_script.proofs.RightActs.{act_fits, submit_fits, group_submit_fits, object_act_fits, limited_fits, target_fits, merge_fits, apply_fits, block_act_fits, notify_block_fits}
 use Rattle.gcd_script.proofs.RightWords.{file_fits, queue_fits, group_fits, semaphore_fits, source_fits, cancelled_fits, until_fits, block_fits, intake_fits, strip_fits, handler_fits, main_fits}
-use Rattle.gcd_script.proofs.SourceChanges as source_changes
-use Rattle.gcd_script.proofs.Valid.{file_valid, object_valid, block_valid, until_valid}
+use Rattle.gcd_builder.proofs.SourceChanges as source_changes
+use Rattle.gcd_builder.proofs.Valid.{file_valid, object_valid, block_valid, until_valid}
 use Rattle.gcd_plan.specs.Made.{is_made, is_within, spans, intake_span, strip_span}
 use Rattle.gcd_plan.proofs.Spans.{Maker, by_intake, by_strip, maker, among_from, intake_of_plan, no_span_past}
 use Rattle.gcd_plan.proofs.MadeBlocks.{within_parts}
-use Rattle.gcd_script.proofs.Makes.{intake_valid}
-use Rattle.gcd_script.proofs.StripMakes.{strip_valid}
-use Rattle.gcd_script.proofs.Submitted.{any_counts}
+use Rattle.gcd_builder.proofs.Makes.{intake_valid}
+use Rattle.gcd_builder.proofs.StripMakes.{strip_valid}
+use Rattle.gcd_builder.proofs.Submitted.{any_counts}
 
 module _ (d : DraftView) (sound : IsDraft d) where
   keyword_fits : (words : List (List ℕ)) (keyword : Keyword) (line : Line (List ℕ)) → line_by d words keyword ≡ Ok line → Fits d line
@@ -206,47 +211,10 @@ module _ (d : DraftView) (sound : IsDraft d) where
         marks = sound.marks;
       }
 
--- the draft before the first line: its names are apart, and root reaches root
-apart_names : (q : List ℕ) → count_by (bytes_eq q) (codes "root" ∷ codes "main" ∷ []) ≤ 1
-apart_names q =
-    elim (bytes_eq q (codes "root")) as (λ v. bytes_eq q (codes "root") ≡ v → 0 + cond v 1 0 + cond (bytes_eq q (codes "main")) 1 0 ≤ 1) [
-      | true ↦ λ e. subst (λ n. 0 + 1 + cond (bytes_eq n (codes "main")) 1 0 ≤ 1) (sym (same_bytes q (codes "root") e)) (lit≤ tt)
-      | false ↦ λ e. elim (bytes_eq q (codes "main")) as (λ w. 0 + 0 + cond w 1 0 ≤ 1) [ true ↦ lit≤ tt | false ↦ lit≤ tt ]
-    ] refl
-
-root_reaches : (o : ℕ) → o < 1 → reaches_root empty_draft.plan o ≡ true
-root_reaches zero h = refl
-root_reaches (suc o) h = absurd (omega arith)
-
-main_named : (b : ℕ) → b < 1 → has_name empty_draft.plan b ≡ true
-main_named zero h = refl
-main_named (suc b) h = absurd (omega arith)
-
+-- the draft before the first line
 pub empty_sound : IsDraft empty_draft
 empty_sound = record {
-  valid = record {
-    root = refl;
-    main = refl;
-    main_idle = refl;
-    few_objects = lit≤ tt;
-    few_blocks = lit≤ tt;
-    few_files = lit≤ tt;
-    few_strips = lit≤ tt;
-    few_acts = lit≤ tt;
-    until_low = lit≤ tt;
-    until_high = lit≤ tt;
-    names = refl;
-    block_names = main_named;
-    names_apart = apart_names;
-    intake = tt;
-    strips = λ a s at. cc;
-    apart = λ b. lit≤ tt;
-    objects = refl;
-    blocks = refl;
-    files = refl;
-    once = λ b. lit≤ tt;
-    targets = root_reaches;
-  };
+  valid = empty_valid;
   body = tt;
   marks = refl;
 }

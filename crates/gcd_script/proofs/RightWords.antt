@@ -8,7 +8,7 @@ use Rattle.gcd_plan.specs.Names.{is_path}
 use Rattle.gcd_plan.specs.PlanView.{PlanView}
 use Rattle.gcd_plan.specs.Validity.{is_object, is_strip_how, is_work}
 use Rattle.gcd_plan.specs.declared.kind.Kind.{Kind}
-use Rattle.gcd_plan.specs.declared.kind.Kind.TheVariants.{Serial, Concurrent, Group, Semaphore, Add, Or, Replace, Timer, Read}
+use Rattle.gcd_plan.specs.declared.kind.Kind.TheVariants.{Group, Semaphore, Timer, Read}
 use Rattle.gcd_plan.specs.declared.numbers.Obj.{Obj}
 use Rattle.gcd_plan.specs.declared.work.How.{How}
 use Rattle.gcd_plan.specs.declared.work.Work.{Work}
@@ -16,28 +16,17 @@ use Rattle.gcd_plan.proofs.Within.{root_is_queue}
 use Rattle.gcd_script.specs.declared.line.Line.{Line}
 use Rattle.gcd_script.specs.declared.line.Line.TheVariants.{DeclareFile, DeclareObject, DeclareBlock, SetUntil, SetCancel, OpenHandler, OpenMain, DeclareIntake, DeclareStrip}
 use Rattle.gcd_script.specs.declared.refusal.Refusal.TheVariants.{NoForm, BadName}
-use Rattle.gcd_script.specs.Changes.{new_object}
+use Rattle.gcd_builder.specs.Changes.{new_object}
 use Rattle.gcd_script.specs.Declarations.{root, one_of, file_line, object_line, queue_line, group_line, semaphore_line, source_line, cancelled_line, until_line, work, work_line, range, whole, counting, block_line, intake_line, strip_line, handler_line, main_line}
 use Rattle.gcd_script.specs.Drafts.{DraftView}
 use Rattle.gcd_script.specs.Keywords.{queue_kinds, merge_kinds, counts}
 use Rattle.gcd_script.specs.Meant.{Meant, meant, both, must}
-use Rattle.gcd_script.specs.Names.{is_unused}
+use Rattle.gcd_builder.specs.Names.{is_unused}
 use Rattle.gcd_script.specs.Sound.{IsDraft, Fits}
 use Rattle.gcd_script.specs.Words.{new_name, path, number, file, block, queue, source}
+use Rattle.gcd_builder.proofs.ObjectKinds.{queue_object, merge_object, read_object, timer_object}
 use Rattle.gcd_script.proofs.Inversions.{made_of, both_are, held, passed, in_range, one_is}
 use Rattle.gcd_script.proofs.Known.{file_within, block_declared, object_asked}
-
--- an object is a queue, or has nothing beside its kind, or is a source
-queue_object : (plan : PlanView) (name : List ℕ) (kind : Kind) (target : Obj) (active : Bool) → is_queue_kind kind ≡ true → is_queue plan target.0 ≡ true → is_object plan (new_object name kind target active []) ≡ true
-queue_object plan name Serial target active is on = and_from (is_queue plan target.0) true on refl
-queue_object plan name Concurrent target active is on = and_from (is_queue plan target.0) true on refl
-queue_object plan name Group target active is on = cc
-queue_object plan name (Semaphore n) target active is on = cc
-queue_object plan name Add target active is on = cc
-queue_object plan name Or target active is on = cc
-queue_object plan name Replace target active is on = cc
-queue_object plan name (Timer start every) target active is on = cc
-queue_object plan name Read target active is on = cc
 
 -- a line `main`
 main_case : (d : DraftView) (has_main : Bool) (line : Line (List ℕ)) → main_line has_main [] ≡ Ok line → Fits d line
@@ -110,21 +99,10 @@ module _ (d : DraftView) (sound : IsDraft d) where
   semaphore_fits _ line h = cc
 
   -- a source of merged values
-  merge_object : (name : List ℕ) (kind : Kind) (target : Obj) → is_merge_kind kind ≡ true → is_queue d.plan target.0 ≡ true → is_object d.plan (new_object name kind target false []) ≡ true
-  merge_object name Serial target is on = cc
-  merge_object name Concurrent target is on = cc
-  merge_object name Group target is on = cc
-  merge_object name (Semaphore n) target is on = cc
-  merge_object name Add target is on = and_from (is_queue d.plan target.0) true on refl
-  merge_object name Or target is on = and_from (is_queue d.plan target.0) true on refl
-  merge_object name Replace target is on = and_from (is_queue d.plan target.0) true on refl
-  merge_object name (Timer start every) target is on = cc
-  merge_object name Read target is on = cc
-
   merge_on : (name k t : List ℕ) (kind : Kind) (target : Obj) → both (one_of merge_kinds k) (queue d.plan t) ≡ Ok (kind, target) → is_object d.plan (new_object name kind target false []) ≡ true
   merge_on name k t kind target h =
       let b = both_are (one_of merge_kinds k) (queue d.plan t) kind target h in
-      merge_object name kind target (one_is (λ a. is_merge_kind a ≡ true) merge_kinds k kind (refl, (refl, (refl, tt))) b.0)
+      merge_object d.plan name kind target (one_is (λ a. is_merge_kind a ≡ true) merge_kinds k kind (refl, (refl, (refl, tt))) b.0)
       (object_asked d.plan is_queue_kind t target b.1)
 
   -- a read source
@@ -134,7 +112,7 @@ module _ (d : DraftView) (sound : IsDraft d) where
       let b = both_are (path p) (queue d.plan t) m.0.0 m.0.1 m.1 in
       let on = object_asked d.plan is_queue_kind t m.0.1 b.1 in
       subst (λ (q : Kind × Obj). is_object d.plan (new_object name q.0 q.1 false p) ≡ true) m.2
-      (and_from (is_path p) (is_queue d.plan m.0.1.0 && true) (held (is_path p) NoForm m.0.0 b.0) (and_from (is_queue d.plan m.0.1.0) true on refl))
+      (read_object d.plan name p m.0.1 (held (is_path p) NoForm m.0.0 b.0) on)
 
   -- a timer
   timer_on : (name start every t : List ℕ) (kind : Kind) (target : Obj) → both (meant (λ (m, n). Timer m n) (both (number 1 max_time start) (number 1 max_time every))) (queue d.plan t) ≡ Ok (kind, target) → is_object d.plan (new_object name kind target false []) ≡ true
@@ -143,14 +121,9 @@ module _ (d : DraftView) (sound : IsDraft d) where
       let b = both_are (meant (λ (m, n). Timer m n) times) (queue d.plan t) kind target h in
       let m = made_of {B = Kind} (λ (m, n). Timer m n) times kind b.0 in
       let n = both_are (number 1 max_time start) (number 1 max_time every) m.0.0 m.0.1 m.1 in
-      let first = and_parts (leb 1 m.0.0) (leb m.0.0 max_time) (in_range 1 max_time start m.0.0 n.0) in
-      let second = in_range 1 max_time every m.0.1 n.1 in
-      let on = object_asked d.plan is_queue_kind t target b.1 in
       subst (λ (k : Kind). is_object d.plan (new_object name k target false []) ≡ true) m.2
-      (and_from (leb 1 m.0.0 && (leb m.0.0 max_time && (leb 1 m.0.1 && leb m.0.1 max_time))) (is_queue d.plan target.0 && true)
-      (and_from (leb 1 m.0.0) (leb m.0.0 max_time && (leb 1 m.0.1 && leb m.0.1 max_time)) first.0
-      (and_from (leb m.0.0 max_time) (leb 1 m.0.1 && leb m.0.1 max_time) first.1 second))
-      (and_from (is_queue d.plan target.0) true on refl))
+      (timer_object d.plan name m.0.0 m.0.1 target (in_range 1 max_time start m.0.0 n.0) (in_range 1 max_time every m.0.1 n.1)
+      (object_asked d.plan is_queue_kind t target b.1))
 
   pub source_fits : (words : List (List ℕ)) (line : Line (List ℕ)) → source_line d.plan words ≡ Ok line → Fits d line
   source_fits (s ∷ k ∷ on ∷ t ∷ []) line h =

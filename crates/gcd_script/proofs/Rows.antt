@@ -7,7 +7,7 @@ use Rattle.gcd_plan.specs.Validity.{root_view}
 use Rattle.gcd_plan.specs.declared.act.Act.TheVariants.{Apply, Async, Signal}
 use Rattle.gcd_plan.specs.declared.kind.Kind.TheVariants.{Serial, Semaphore, Timer}
 use Rattle.gcd_plan.specs.declared.work.How.TheVariants.{Count, Sum}
-use Rattle.gcd_script.specs.Names.{meaning_of}
+use Rattle.gcd_builder.specs.Names.{meaning_of}
 use Rattle.gcd_script.specs.Faults.{fault_of, IsScriptOf}
 
 each_form : fault_of (codes "# each form\n\nfile f p/a.txt\nqueue q serial\nqueue c concurrent inactive\nqueue r serial on c\nqueue d concurrent on r inactive\ngroup g\nsemaphore s 0\nsource a add on q\nsource o or on root\nsource t timer 1 86400000 on q\nsource i read tcp on q\nuntil 86400000\nblock b0\nblock b1 bytes f\nblock b2 lines f 0 16777216\nblock b3 words f\nblock b4 sum f 5 7\nblock b5 count 255 f\nblock b6 count 0 f 1 2\nblock b7\ncancelled t b7\nhandler a\nsignal s\nenter g\nleave g\nsuspend q\nresume q\nactivate c\ntarget d root\nmerge o 2147483647\ncancel t\nretain g\nrelease g\nmain\nasync root b0\nbarrier c b1\nsync q b2\nbarrier_sync c b3\ngroup_async g q b4\nnotify g q b5\ngroup_wait g\nwait s") ≡ None

@@ -21,9 +21,9 @@ use Rattle.gcd_script.specs.declared.keyword.BlockAct.{BlockAct}
 use Rattle.gcd_script.specs.declared.keyword.BlockAct.TheVariants.{CancelBlock, WaitBlock}
 use Rattle.gcd_script.specs.declared.line.Line.{Line}
 use Rattle.gcd_script.specs.declared.line.Line.TheVariants.{AddAct}
-use Rattle.gcd_script.specs.declared.names.Asked.{Asked}
-use Rattle.gcd_script.specs.declared.names.Asked.TheVariants.{Source, Node, Group, Semaphore, MergeSource, Any}
-use Rattle.gcd_script.specs.Asked.{asks}
+use Rattle.gcd_builder.specs.declared.asked.Asked.{Asked}
+use Rattle.gcd_builder.specs.declared.asked.Asked.TheVariants.{Source, Node, Group, Semaphore, MergeSource, Any}
+use Rattle.gcd_builder.specs.Asked.{asks}
 use Rattle.gcd_script.specs.declared.refusal.Refusal.TheVariants.{NoForm}
 use Rattle.gcd_script.specs.Meant.{Meant, meant, both}
 use Rattle.gcd_script.specs.Words.{number, block, queue, strip, object, object_but_root}

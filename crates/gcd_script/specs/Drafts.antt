@@ -1,10 +1,8 @@
 -- What the lines of a script declare so far: the plan, and the body that is open.
-use Rattle.std.specs.Prelude.{ℕ, ◌+◌, Bool, false, List, [], ◌∷◌, Option, None, codes}
-use Rattle.gcd_plan.specs.PlanView.{PlanView, BlkView}
-use Rattle.gcd_plan.specs.Limits.{default_until}
-use Rattle.gcd_plan.specs.Validity.{root_view}
+use Rattle.std.specs.Prelude.{ℕ, ◌+◌, Bool, false, List, [], ◌∷◌, Option, None}
+use Rattle.gcd_plan.specs.PlanView.{PlanView}
 use Rattle.gcd_plan.specs.declared.numbers.Run.{Run}
-use Rattle.gcd_plan.specs.declared.work.Work.{Work}
+use Rattle.gcd_builder.specs.Changes.{empty_plan}
 
 -- what the lines so far declare
 pub record DraftView : Type 0 where
@@ -21,15 +19,11 @@ pub record DraftView : Type 0 where
   -- for each object, whether a line opens its handler
   pub handlers : List Bool
 
--- a block as it is declared, with no act yet
-abbrev pub new_block : List ℕ → Option Work → BlkView
-new_block name work = record { name = name; acts = []; work = work }
-
 -- before the first line: root and main alone
 abbrev pub empty_draft : DraftView
 empty_draft = record {
   lines = 0;
-  plan = record { objects = root_view ∷ []; blocks = new_block (codes "main") None ∷ []; files = []; until = default_until; intake = None; strips = [] };
+  plan = empty_plan;
   body = None;
   has_main = false;
   has_until = false;

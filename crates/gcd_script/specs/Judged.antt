@@ -1,40 +1,17 @@
 -- What is judged of a whole line: codes above those of words, so that they count only where all its words have a meaning.
-use Rattle.std.specs.Prelude.{ℕ, ◌+◌, ◌==◌, nat_lt, nat_le, not, ◌&&◌, Bool, true, false, if◌then◌else◌, List, length, is_none, option_to_list, Ok, Err}
-use Rattle.std.specs.List.{list_any, flat_map, slice_index_or}
-use Rattle.std.specs.Option.{option_map_or}
+use Rattle.std.specs.Prelude.{ℕ, ◌+◌, nat_lt, nat_le, not, ◌&&◌, Bool, true, false, if◌then◌else◌, List, length, is_none, Ok, Err}
+use Rattle.std.specs.List.{slice_index_or}
 use Rattle.gcd_plan.specs.Limits.{max_files, max_objects, max_blocks, max_strips, max_acts}
 use Rattle.gcd_plan.specs.PlanView.{PlanView, cancel_block}
-use Rattle.gcd_plan.specs.Validity.{submitted_blocks, act_count, block_of, strip_of, is_handler_act}
-use Rattle.gcd_plan.specs.declared.act.Act.{Act}
-use Rattle.gcd_plan.specs.declared.numbers.Blk.{Blk}
-use Rattle.gcd_plan.specs.declared.numbers.Run.{Run}
-use Rattle.gcd_plan.specs.declared.numbers.Run.TheVariants.{Block, Source}
+use Rattle.gcd_plan.specs.Validity.{act_count}
+use Rattle.gcd_builder.specs.Bodies.{may_have}
+use Rattle.gcd_builder.specs.Taken.{is_free, is_untaken_by}
 use Rattle.gcd_script.specs.declared.line.Line.{Line}
 use Rattle.gcd_script.specs.declared.line.Line.TheVariants.{DeclareFile, DeclareObject, DeclareBlock, SetUntil, SetCancel, OpenHandler, OpenMain, AddAct, DeclareIntake, DeclareStrip}
 use Rattle.gcd_script.specs.declared.refusal.Refusal.TheVariants.{Repeated, InHandler, PastLimit}
 use Rattle.gcd_script.specs.Drafts.{DraftView}
 use Rattle.gcd_script.specs.Forms.{form_of}
 use Rattle.gcd_script.specs.Meant.{Meant, then_meant}
-
--- no earlier line submits the block
-abbrev pub is_free : PlanView → Blk → Bool
-is_free plan b = not (list_any (λ c. c.0 == b.0) (submitted_blocks plan))
-
--- the strips that the acts apply, and those that the acts of a plan's blocks apply (dispatch_apply(3))
-abbrev pub strips_of : List Act → List ℕ
-strips_of acts = flat_map (λ act. option_to_list (strip_of act)) acts
-
-abbrev pub applied_strips : PlanView → List ℕ
-applied_strips plan = flat_map (λ b. strips_of b.acts) plan.blocks
-
--- no earlier line applies the strip
-abbrev pub is_unapplied : PlanView → ℕ → Bool
-is_unapplied plan a = not (list_any (λ c. c == a) (applied_strips plan))
-
--- what the act takes is not taken: the block that it submits, or the strip
-abbrev pub is_untaken_by : PlanView → Act → Bool
-is_untaken_by plan act =
-    option_map_or (is_free plan) (block_of act) true && option_map_or (is_unapplied plan) (strip_of act) true
 
 -- what the line takes is not taken: its block or its strip, or the handler or the cancellation block of its source
 abbrev pub is_untaken : DraftView → Line (List ℕ) → Bool
@@ -48,11 +25,6 @@ is_untaken d OpenMain = true
 is_untaken d (AddAct run act) = is_untaken_by d.plan act
 is_untaken d (DeclareIntake queue count) = true
 is_untaken d (DeclareStrip name how file len count) = true
-
--- the body may have the act
-abbrev pub may_have : Run → Act → Bool
-may_have (Block b) act = true
-may_have (Source s) act = is_handler_act act
 
 -- no act stands in a handler that may not have it
 abbrev pub is_allowed : Line (List ℕ) → Bool

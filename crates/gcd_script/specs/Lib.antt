@@ -4,11 +4,9 @@ pub mod Codes
 pub mod Amounts
 pub mod Meant
 pub mod Causes
-pub mod Names
 pub mod Drafts
 pub mod Changes
 pub mod Words
-pub mod Asked
 pub mod Keywords
 pub mod Declarations
 pub mod Acts
@@ -18,6 +16,5 @@ pub mod Faults
 pub mod Refusals
 pub mod Views
 pub mod Sound
-pub mod Agreement
 pub mod BigScript
 pub mod Laws

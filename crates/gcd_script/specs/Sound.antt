@@ -1,25 +1,18 @@
 -- What holds of a draft that right lines make, and which lines are right.
-use Rattle.std.specs.Prelude.{◌≡◌, ℕ, ◌<◌, ◌≤◌, ◌&&◌, nat_le, true, false, List, length, is_none, Some, IfSome}
+use Rattle.std.specs.Prelude.{◌≡◌, ℕ, ◌<◌, ◌≤◌, ◌&&◌, nat_le, true, List, length, is_none, Some, IfSome}
 use Rattle.std.specs.Option.{option_map_or}
 use Rattle.gcd_plan.specs.Kinds.{is_source, is_queue}
 use Rattle.gcd_plan.specs.Limits.{max_time, max_intake, max_file_bytes}
-use Rattle.gcd_plan.specs.Made.{is_made}
 use Rattle.gcd_plan.specs.Names.{is_path}
 use Rattle.gcd_plan.specs.PlanView.{PlanView}
 use Rattle.gcd_plan.specs.Validity.{IsPlan, is_object, is_work, is_declared, is_strip_how, is_act}
-use Rattle.gcd_plan.specs.declared.numbers.Run.{Run}
-use Rattle.gcd_plan.specs.declared.numbers.Run.TheVariants.{Block, Source}
+use Rattle.gcd_builder.specs.Bodies.{IsBody}
+use Rattle.gcd_builder.specs.Changes.{new_object}
+use Rattle.gcd_builder.specs.Names.{is_unused}
 use Rattle.gcd_script.specs.declared.line.Line.{Line}
 use Rattle.gcd_script.specs.declared.line.Line.TheVariants.{DeclareFile, DeclareObject, DeclareBlock, SetUntil, SetCancel, OpenHandler, OpenMain, AddAct, DeclareIntake, DeclareStrip}
-use Rattle.gcd_script.specs.Changes.{new_object}
 use Rattle.gcd_script.specs.Drafts.{DraftView}
 use Rattle.gcd_script.specs.Judged.{is_untaken, is_allowed, has_room}
-use Rattle.gcd_script.specs.Names.{is_unused}
-
--- the plan has such a body: that of a block that is not of the intake or of a strip, or a source's
-abbrev pub IsBody : PlanView → Run → Type 0
-IsBody plan (Block b) = (b.0 < length plan.blocks) × (is_made plan b.0 ≡ false)
-IsBody plan (Source s) = is_source plan s.0 ≡ true
 
 -- the plan so far is valid, the open body is one of its bodies, and each object has its mark
 pub record IsDraft (d : DraftView) : Type 0 where

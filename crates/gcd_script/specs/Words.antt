@@ -9,11 +9,11 @@ use Rattle.gcd_plan.specs.PlanView.{PlanView}
 use Rattle.gcd_plan.specs.declared.kind.Kind.{Kind}
 use Rattle.gcd_plan.specs.declared.numbers.Blk.{Blk}
 use Rattle.gcd_plan.specs.declared.numbers.Obj.{Obj}
-use Rattle.gcd_script.specs.declared.meaning.Meaning.{Meaning}
-use Rattle.gcd_script.specs.declared.meaning.Meaning.TheVariants.{File, Object, Block, Strip}
+use Rattle.gcd_builder.specs.declared.meaning.Meaning.{Meaning}
+use Rattle.gcd_builder.specs.declared.meaning.Meaning.TheVariants.{File, Object, Block, Strip}
 use Rattle.gcd_script.specs.declared.refusal.Refusal.TheVariants.{NoForm, BadName, UnknownName, OtherKind, BadNumber}
 use Rattle.gcd_script.specs.Meant.{Meant, must, then_meant}
-use Rattle.gcd_script.specs.Names.{meaning_of, is_unused}
+use Rattle.gcd_builder.specs.Names.{meaning_of, is_unused}
 
 -- that it is a new name
 abbrev pub new_name : PlanView → List ℕ → Meant (Unit {0})

@@ -12,7 +12,7 @@ use crate::draft::Draft;
 use crate::keyword::{BlockAct, GroupSubmission, LimitedWait, ObjectAct, Submission};
 use crate::line::Line;
 use crate::meant::{Meant, both};
-use crate::names::Asked;
+use gcd_builder::Asked;
 use crate::words::number;
 use gcd_plan::{Act, Blk, Obj, Run};
 
@@ -118,7 +118,7 @@ impl BlockAct {
 
 impl<'a> Draft<'a> {
     ghost use Rattle.gcd_script.specs.Acts.{act_line, submit_act, group_submit_act, object_act, limited_act, target_act, merge_act, apply_act, block_act, notify_block_act};
-    ghost use Rattle.gcd_script.specs.Agreement.{DraftAgrees};
+    ghost use Rattle.gcd_builder.specs.Agreement.{Agrees};
     ghost use Rattle.gcd_script.specs.Meant.{meant};
     ghost use Rattle.gcd_script.specs.Views.{line_view};
 
@@ -142,8 +142,8 @@ impl<'a> Draft<'a> {
 
     /// `async Q B`, `barrier Q B`, `sync Q B`, `barrier_sync Q B`.
     pub fn submit_act(&self, how: Submission, words: &[&str]) -> Meant<Act>
-        requires { DraftAgrees self.now }
-        ensures { coded result ≡ submit_act (view_of self.now.parts) how (map (λ w. w.now) words.now) }
+        requires { Agrees self.now.plan }
+        ensures { coded result ≡ submit_act (view_of self.now.plan.parts) how (map (λ w. w.now) words.now) }
     {
         match *words {
             [queue, block] => {
@@ -159,8 +159,8 @@ impl<'a> Draft<'a> {
 
     /// `group_async G Q B`, `notify G Q B`.
     pub fn group_submit_act(&self, how: GroupSubmission, words: &[&str]) -> Meant<Act>
-        requires { DraftAgrees self.now }
-        ensures { coded result ≡ group_submit_act (view_of self.now.parts) how (map (λ w. w.now) words.now) }
+        requires { Agrees self.now.plan }
+        ensures { coded result ≡ group_submit_act (view_of self.now.plan.parts) how (map (λ w. w.now) words.now) }
     {
         match *words {
             [group, queue, block] => self.submitted_for(how, group, queue, block),
@@ -175,8 +175,8 @@ impl<'a> Draft<'a> {
         queue: &str,
         block: &str,
     ) -> Meant<Act>
-        requires { DraftAgrees self.now }
-        ensures { coded result ≡ group_submit_act (view_of self.now.parts) how (group.now ∷ queue.now ∷ block.now ∷ []) }
+        requires { Agrees self.now.plan }
+        ensures { coded result ≡ group_submit_act (view_of self.now.plan.parts) how (group.now ∷ queue.now ∷ block.now ∷ []) }
     {
         let submitted = both(self.object(Asked::Queue, 3, queue), self.block(4, block));
         let (group, (queue, block)) = both(self.object(Asked::Group, 2, group), submitted)?;
@@ -185,8 +185,8 @@ impl<'a> Draft<'a> {
 
     /// The acts on one object, which is not `root`.
     pub fn object_act(&self, what: ObjectAct, words: &[&str]) -> Meant<Act>
-        requires { DraftAgrees self.now }
-        ensures { coded result ≡ object_act (view_of self.now.parts) what (map (λ w. w.now) words.now) }
+        requires { Agrees self.now.plan }
+        ensures { coded result ≡ object_act (view_of self.now.plan.parts) what (map (λ w. w.now) words.now) }
     {
         match *words {
             [object] => self.acted(what, object),
@@ -195,8 +195,8 @@ impl<'a> Draft<'a> {
     }
 
     fn acted(&self, what: ObjectAct, object: &str) -> Meant<Act>
-        requires { DraftAgrees self.now }
-        ensures { coded result ≡ object_act (view_of self.now.parts) what (object.now ∷ []) }
+        requires { Agrees self.now.plan }
+        ensures { coded result ≡ object_act (view_of self.now.plan.parts) what (object.now ∷ []) }
     {
         let object = self.object_but_root(what.asked(), 2, object)?;
         Ok(what.act(object))
@@ -204,8 +204,8 @@ impl<'a> Draft<'a> {
 
     /// `wait_for S MS` (dispatch_semaphore_wait(3)), `group_wait_for G MS` (dispatch_group_wait(3)).
     pub fn limited_act(&self, what: LimitedWait, words: &[&str]) -> Meant<Act>
-        requires { DraftAgrees self.now }
-        ensures { coded result ≡ limited_act (view_of self.now.parts) what (map (λ w. w.now) words.now) }
+        requires { Agrees self.now.plan }
+        ensures { coded result ≡ limited_act (view_of self.now.plan.parts) what (map (λ w. w.now) words.now) }
     {
         match *words {
             [object, limit] => self.waited(what, object, limit),
@@ -214,8 +214,8 @@ impl<'a> Draft<'a> {
     }
 
     fn waited(&self, what: LimitedWait, object: &str, limit: &str) -> Meant<Act>
-        requires { DraftAgrees self.now }
-        ensures { coded result ≡ limited_act (view_of self.now.parts) what (object.now ∷ limit.now ∷ []) }
+        requires { Agrees self.now.plan }
+        ensures { coded result ≡ limited_act (view_of self.now.plan.parts) what (object.now ∷ limit.now ∷ []) }
     {
         let object = self.object(what.asked(), 2, object);
         let (object, limit) = both(object, number(3, Amount::Limit, limit))?;
@@ -224,8 +224,8 @@ impl<'a> Draft<'a> {
 
     /// `target O T` (dispatch_set_target_queue(3)).
     pub fn target_act(&self, words: &[&str]) -> Meant<Act>
-        requires { DraftAgrees self.now }
-        ensures { coded result ≡ target_act (view_of self.now.parts) (map (λ w. w.now) words.now) }
+        requires { Agrees self.now.plan }
+        ensures { coded result ≡ target_act (view_of self.now.plan.parts) (map (λ w. w.now) words.now) }
     {
         match *words {
             [object, target] => {
@@ -239,8 +239,8 @@ impl<'a> Draft<'a> {
 
     /// `merge S N` (dispatch_source_merge_data(3)).
     pub fn merge_act(&self, words: &[&str]) -> Meant<Act>
-        requires { DraftAgrees self.now }
-        ensures { coded result ≡ merge_act (view_of self.now.parts) (map (λ w. w.now) words.now) }
+        requires { Agrees self.now.plan }
+        ensures { coded result ≡ merge_act (view_of self.now.plan.parts) (map (λ w. w.now) words.now) }
     {
         match *words {
             [source, value] => {
@@ -254,8 +254,8 @@ impl<'a> Draft<'a> {
 
     /// `apply Q A` (dispatch_apply(3)).
     pub fn apply_act(&self, words: &[&str]) -> Meant<Act>
-        requires { DraftAgrees self.now }
-        ensures { coded result ≡ apply_act (view_of self.now.parts) (map (λ w. w.now) words.now) }
+        requires { Agrees self.now.plan }
+        ensures { coded result ≡ apply_act (view_of self.now.plan.parts) (map (λ w. w.now) words.now) }
     {
         match *words {
             [queue, strip] => {
@@ -271,8 +271,8 @@ impl<'a> Draft<'a> {
 
     /// `cancel_block B` (dispatch_block_cancel(3)), `wait_block B` (dispatch_block_wait(3)).
     pub fn block_act(&self, what: BlockAct, words: &[&str]) -> Meant<Act>
-        requires { DraftAgrees self.now }
-        ensures { coded result ≡ block_act (view_of self.now.parts) what (map (λ w. w.now) words.now) }
+        requires { Agrees self.now.plan }
+        ensures { coded result ≡ block_act (view_of self.now.plan.parts) what (map (λ w. w.now) words.now) }
     {
         match *words {
             [block] => {
@@ -285,8 +285,8 @@ impl<'a> Draft<'a> {
 
     /// `notify_block B Q C` (dispatch_block_notify(3)).
     pub fn notify_block_act(&self, words: &[&str]) -> Meant<Act>
-        requires { DraftAgrees self.now }
-        ensures { coded result ≡ notify_block_act (view_of self.now.parts) (map (λ w. w.now) words.now) }
+        requires { Agrees self.now.plan }
+        ensures { coded result ≡ notify_block_act (view_of self.now.plan.parts) (map (λ w. w.now) words.now) }
     {
         match *words {
             [awaited, queue, noted] => self.noted(awaited, queue, noted),
@@ -295,8 +295,8 @@ impl<'a> Draft<'a> {
     }
 
     fn noted(&self, awaited: &str, queue: &str, noted: &str) -> Meant<Act>
-        requires { DraftAgrees self.now }
-        ensures { coded result ≡ notify_block_act (view_of self.now.parts) (awaited.now ∷ queue.now ∷ noted.now ∷ []) }
+        requires { Agrees self.now.plan }
+        ensures { coded result ≡ notify_block_act (view_of self.now.plan.parts) (awaited.now ∷ queue.now ∷ noted.now ∷ []) }
     {
         let submitted = both(self.object(Asked::Queue, 3, queue), self.block(4, noted));
         let (awaited, (queue, noted)) = both(self.block(2, awaited), submitted)?;

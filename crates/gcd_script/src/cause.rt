@@ -3,7 +3,7 @@ ghost use Rattle.std.specs.Prelude.{◌≡◌};
 ghost use Rattle.gcd_script.specs.Causes.{cause_refusal, cause_code};
 
 use crate::amount::Amount;
-use crate::names::Asked;
+use gcd_builder::Asked;
 use crate::refusal::Refusal;
 
 /// A word that a form spells out, or a choice of such words.

@@ -1,33 +1,29 @@
 // What a right line adds to a draft.
-ghost use Rattle.std.specs.Prelude.{◌≡◌, ◌<◌, ◌+◌, OnOk, true, false, [], ◌∷◌, ◌++◌, Some, None, length, slice_set, IfSome, vec_len};
+ghost use Rattle.std.specs.Prelude.{◌≡◌, ◌<◌, ◌+◌, OnOk, true, length};
 ghost use Rattle.gcd_plan.specs.Limits.{max_blocks, max_files, max_objects};
 ghost use Rattle.gcd_plan.specs.PlanView.{view_of};
 
-use crate::additions::{declare, push_act, push_block, push_file, push_object, set_cancel};
 use crate::draft::Draft;
-use crate::flags::{add_flags, mark, mark_strip, mark_strip_blocks};
 use crate::line::Line;
-use crate::made::{push_intake, push_strip};
-use crate::meaning::Meaning;
-use gcd_plan::{Act, Blk, How, Kind, Obj, Parts, Run, Work};
+use gcd_plan::{Act, Blk, How, Kind, Obj, Run, Work};
 use std::alloc::{AllocError, Global};
 
 impl<'a> Draft<'a> {
-    ghost use Rattle.gcd_script.specs.Agreement.{DraftAgrees};
+    ghost use Rattle.gcd_builder.specs.Agreement.{Agrees};
+    ghost use Rattle.gcd_builder.specs.Names.{is_unused};
     ghost use Rattle.gcd_script.specs.Changes.{change, after};
-    ghost use Rattle.gcd_script.specs.Names.{is_unused};
     ghost use Rattle.gcd_script.specs.Sound.{IsDraft, IsRight};
     ghost use Rattle.gcd_script.specs.Views.{draft_view, line_view};
-    ghost use Rattle.gcd_script.specs.declared.line.Line.TheVariants.{DeclareFile, DeclareObject, DeclareBlock, SetCancel, OpenHandler, AddAct, DeclareIntake, DeclareStrip};
+    ghost use Rattle.gcd_script.specs.declared.line.Line.TheVariants.{DeclareFile, DeclareObject, DeclareBlock, SetUntil, SetCancel, OpenHandler, AddAct, DeclareIntake, DeclareStrip};
 
     /// Adds what a right line declares, and counts the line. After an error the draft is of no use.
     pub fn add(&mut self, alloc: Global, line: &Line<&'a str>) -> Result<(), AllocError>
-        requires agrees { DraftAgrees self.old }
+        requires agrees { Agrees self.old.plan }
         requires sound { IsDraft (draft_view self.old) }
         requires right { IsRight (draft_view self.old) (line_view line.now) }
         requires room { self.old.lines < u32.MAX }
         ensures view { OnOk result (draft_view self.new ≡ after (line_view line.now) (draft_view self.old)) }
-        ensures agrees { OnOk result (DraftAgrees self.new) }
+        ensures agrees { OnOk result (Agrees self.new.plan) }
     {
         self.change(alloc, line)?;
         self.lines += 1;
@@ -35,14 +31,14 @@ impl<'a> Draft<'a> {
     }
 
     // The same without the count.
-    #[tactic(auto, unfolding(crate::specs::Names::meaning_of))]
+    #[tactic(auto, unfolding(gcd_builder::specs::Names::meaning_of))]
     fn change(&mut self, alloc: Global, line: &Line<&'a str>) -> Result<(), AllocError>
-        requires agrees { DraftAgrees self.old }
+        requires agrees { Agrees self.old.plan }
         requires sound { IsDraft (draft_view self.old) }
         requires right { IsRight (draft_view self.old) (line_view line.now) }
         requires room { self.old.lines < u32.MAX }
         ensures view { OnOk result (draft_view self.new ≡ change (line_view line.now) (draft_view self.old)) }
-        ensures agrees { OnOk result (DraftAgrees self.new) }
+        ensures agrees { OnOk result (Agrees self.new.plan) }
     {
         match *line {
             Line::DeclareFile { name, path } => self.add_file(alloc, name, path),
@@ -55,7 +51,7 @@ impl<'a> Draft<'a> {
             } => self.add_object(alloc, name, kind, target, active, path),
             Line::DeclareBlock { name, work } => self.add_block(alloc, name, work),
             Line::SetUntil(ms) => {
-                self.parts.until = ms;
+                self.plan.set_until(ms);
                 self.body = None;
                 self.has_until = true;
                 Ok(())
@@ -80,16 +76,14 @@ impl<'a> Draft<'a> {
     }
 
     fn add_file(&mut self, alloc: Global, name: &'a str, path: &'a str) -> Result<(), AllocError>
-        requires agrees { DraftAgrees self.old }
-        requires unused { is_unused (view_of self.old.parts) name.now ≡ true }
-        requires room { length (view_of self.old.parts).files < max_files }
+        requires agrees { Agrees self.old.plan }
+        requires unused { is_unused (view_of self.old.plan.parts) name.now ≡ true }
+        requires room { length (view_of self.old.plan.parts).files < max_files }
         requires lines { self.old.lines < u32.MAX }
         ensures view { OnOk result (draft_view self.new ≡ change (DeclareFile name.now path.now) (draft_view self.old)) }
-        ensures agrees { OnOk result (DraftAgrees self.new) }
+        ensures agrees { OnOk result (Agrees self.new.plan) }
     {
-        let file = self.parts.files.len() as u32;
-        push_file(alloc, &mut self.parts, self.lines + 1, name, path)?;
-        declare(&mut self.meanings, name, Meaning::File(file))?;
+        self.plan.add_file(alloc, self.lines + 1, name, path)?;
         self.body = None;
         Ok(())
     }
@@ -103,16 +97,15 @@ impl<'a> Draft<'a> {
         active: bool,
         path: &'a str,
     ) -> Result<(), AllocError>
-        requires agrees { DraftAgrees self.old }
-        requires unused { is_unused (view_of self.old.parts) name.now ≡ true }
-        requires room { length (view_of self.old.parts).objects < max_objects }
+        requires agrees { Agrees self.old.plan }
+        requires unused { is_unused (view_of self.old.plan.parts) name.now ≡ true }
+        requires room { length (view_of self.old.plan.parts).objects < max_objects }
         ensures view { OnOk result (draft_view self.new ≡ change (DeclareObject name.now kind target active path.now) (draft_view self.old)) }
-        ensures agrees { OnOk result (DraftAgrees self.new) }
+        ensures agrees { OnOk result (Agrees self.new.plan) }
     {
-        let object = Obj(self.parts.objects.len() as u32);
-        push_object(alloc, &mut self.parts, name, kind, target, active, path)?;
+        self.plan
+            .add_object(alloc, name, kind, target, active, path)?;
         self.handlers.push(false)?;
-        declare(&mut self.meanings, name, Meaning::Object(object))?;
         self.body = None;
         Ok(())
     }
@@ -123,38 +116,34 @@ impl<'a> Draft<'a> {
         name: &'a str,
         work: Option<Work>,
     ) -> Result<(), AllocError>
-        requires agrees { DraftAgrees self.old }
-        requires unused { is_unused (view_of self.old.parts) name.now ≡ true }
-        requires room { length (view_of self.old.parts).blocks < max_blocks }
+        requires agrees { Agrees self.old.plan }
+        requires unused { is_unused (view_of self.old.plan.parts) name.now ≡ true }
+        requires room { length (view_of self.old.plan.parts).blocks < max_blocks }
         ensures view { OnOk result (draft_view self.new ≡ change (DeclareBlock name.now work) (draft_view self.old)) }
-        ensures agrees { OnOk result (DraftAgrees self.new) }
+        ensures agrees { OnOk result (Agrees self.new.plan) }
     {
-        let block = Blk(self.parts.blocks.len() as u32);
-        push_block(alloc, &mut self.parts, name, work)?;
-        self.submitted.push(false)?;
-        declare(&mut self.meanings, name, Meaning::Block(block))?;
+        let block = self.plan.add_block(alloc, name, work)?;
         self.body = Some(Run::Block(block));
         Ok(())
     }
 
     fn add_cancel(&mut self, source: Obj, block: Blk) -> Result<(), AllocError>
-        requires agrees { DraftAgrees self.old }
+        requires agrees { Agrees self.old.plan }
         requires sound { IsDraft (draft_view self.old) }
         requires right { IsRight (draft_view self.old) (SetCancel source block) }
         ensures view { OnOk result (draft_view self.new ≡ change (SetCancel source block) (draft_view self.old)) }
-        ensures agrees { OnOk result (DraftAgrees self.new) }
+        ensures agrees { OnOk result (Agrees self.new.plan) }
     {
-        set_cancel(&mut self.parts, source, block);
-        self.submitted[block.0 as usize] = true;
+        self.plan.add_cancel(source, block);
         self.body = None;
         Ok(())
     }
 
     fn open_handler(&mut self, s: Obj) -> Result<(), AllocError>
-        requires agrees { DraftAgrees self.old }
+        requires agrees { Agrees self.old.plan }
         requires known { s.0 < length (draft_view self.old).handlers }
         ensures view { draft_view self.new ≡ change (OpenHandler s) (draft_view self.old) }
-        ensures agrees { DraftAgrees self.new }
+        ensures agrees { Agrees self.new.plan }
     {
         self.handlers[s.0 as usize] = true;
         self.body = Some(Run::Source(s));
@@ -162,29 +151,24 @@ impl<'a> Draft<'a> {
     }
 
     fn add_act(&mut self, run: Run, act: Act) -> Result<(), AllocError>
-        requires agrees { DraftAgrees self.old }
+        requires agrees { Agrees self.old.plan }
         requires sound { IsDraft (draft_view self.old) }
         requires right { IsRight (draft_view self.old) (AddAct run act) }
         ensures view { OnOk result (draft_view self.new ≡ change (AddAct run act) (draft_view self.old)) }
-        ensures agrees { OnOk result (DraftAgrees self.new) }
+        ensures agrees { OnOk result (Agrees self.new.plan) }
     {
-        mark(&mut self.submitted, act.block());
-        mark_strip_blocks(&mut self.submitted, &self.parts, act.strip());
-        mark_strip(&mut self.applied, act.strip());
-        push_act(&mut self.parts, run, act)?;
-        self.acts += 1;
+        self.plan.add_act(run, act)?;
         Ok(())
     }
 
     fn add_intake(&mut self, alloc: Global, queue: Obj, count: u32) -> Result<(), AllocError>
-        requires agrees { DraftAgrees self.old }
+        requires agrees { Agrees self.old.plan }
         requires sound { IsDraft (draft_view self.old) }
         requires right { IsRight (draft_view self.old) (DeclareIntake queue count) }
         ensures view { OnOk result (draft_view self.new ≡ change (DeclareIntake queue count) (draft_view self.old)) }
-        ensures agrees { OnOk result (DraftAgrees self.new) }
+        ensures agrees { OnOk result (Agrees self.new.plan) }
     {
-        push_intake(alloc, &mut self.parts, queue, count)?;
-        add_flags(&mut self.submitted, count)?;
+        self.plan.add_intake(alloc, queue, count)?;
         self.body = None;
         Ok(())
     }
@@ -198,26 +182,14 @@ impl<'a> Draft<'a> {
         len: u32,
         count: u32,
     ) -> Result<(), AllocError>
-        requires agrees { DraftAgrees self.old }
+        requires agrees { Agrees self.old.plan }
         requires sound { IsDraft (draft_view self.old) }
         requires right { IsRight (draft_view self.old) (DeclareStrip name.now how file len count) }
         ensures view { OnOk result (draft_view self.new ≡ change (DeclareStrip name.now how file len count) (draft_view self.old)) }
-        ensures agrees { OnOk result (DraftAgrees self.new) }
+        ensures agrees { OnOk result (Agrees self.new.plan) }
     {
-        let strip = self.parts.strips.len() as u32;
-        push_strip(alloc, &mut self.parts, name, how, file, len, count)?;
-        add_flags(&mut self.submitted, count)?;
-        self.applied.push(false)?;
-        declare(&mut self.meanings, name, Meaning::Strip(strip))?;
+        self.plan.add_strip(alloc, name, how, file, len, count)?;
         self.body = None;
         Ok(())
-    }
-
-    /// The parts of the plan.
-    pub fn into_parts(self) -> Parts
-        ensures { result ≡ self.entry.parts }
-    {
-        let Draft { parts, .. } = self;
-        parts
     }
 }

@@ -15,21 +15,21 @@ use crate::cause::{Cause, Choice};
 use crate::draft::Draft;
 use crate::line::Line;
 use crate::meant::{Meant, both, must};
-use crate::names::Asked;
+use gcd_builder::Asked;
 use crate::words::{count, counting, merge_kind, number, path, queue_kind, range, work};
 use gcd_plan::{How, Kind, Obj, WHOLE_FILE};
 
 const ROOT: Obj = Obj(0);
 
 impl<'a> Draft<'a> {
-    ghost use Rattle.gcd_script.specs.Agreement.{DraftAgrees};
+    ghost use Rattle.gcd_builder.specs.Agreement.{Agrees};
     ghost use Rattle.gcd_script.specs.Declarations.{file_line, object_line, queue_line, group_line, semaphore_line, source_line, cancelled_line, until_line, work_line, block_line, intake_line, strip_line, handler_line, main_line};
     ghost use Rattle.gcd_script.specs.Views.{line_view};
 
     /// `file F PATH`.
     pub fn file_line(&self, words: &[&'a str]) -> Meant<Line<&'a str>>
-        requires { DraftAgrees self.now }
-        ensures { meant line_view (coded result) ≡ file_line (view_of self.now.parts) (map (λ w. w.now) words.now) }
+        requires { Agrees self.now.plan }
+        ensures { meant line_view (coded result) ≡ file_line (view_of self.now.plan.parts) (map (λ w. w.now) words.now) }
     {
         match *words {
             [name, feed] => self.named_file(name, feed),
@@ -38,8 +38,8 @@ impl<'a> Draft<'a> {
     }
 
     fn named_file(&self, name: &'a str, place: &'a str) -> Meant<Line<&'a str>>
-        requires { DraftAgrees self.now }
-        ensures { meant line_view (coded result) ≡ file_line (view_of self.now.parts) (name.now ∷ place.now ∷ []) }
+        requires { Agrees self.now.plan }
+        ensures { meant line_view (coded result) ≡ file_line (view_of self.now.plan.parts) (name.now ∷ place.now ∷ []) }
     {
         both(self.new_name(name), path(3, place))?;
         Ok(Line::DeclareFile { name, path: place })
@@ -53,8 +53,8 @@ impl<'a> Draft<'a> {
         active: bool,
         path: &'a str,
     ) -> Meant<Line<&'a str>>
-        requires { DraftAgrees self.now }
-        ensures { meant line_view (coded result) ≡ object_line (view_of self.now.parts) name.now (coded what) active path.now }
+        requires { Agrees self.now.plan }
+        ensures { meant line_view (coded result) ≡ object_line (view_of self.now.plan.parts) name.now (coded what) active path.now }
     {
         let ((), (kind, target)) = both(self.new_name(name), what)?;
         Ok(Line::DeclareObject {
@@ -68,8 +68,8 @@ impl<'a> Draft<'a> {
 
     /// `queue Q K`, `queue Q K inactive`, `queue Q K on T`, `queue Q K on T inactive` (dispatch_queue_create(3)).
     pub fn queue_line(&self, words: &[&'a str]) -> Meant<Line<&'a str>>
-        requires { DraftAgrees self.now }
-        ensures { meant line_view (coded result) ≡ queue_line (view_of self.now.parts) (map (λ w. w.now) words.now) }
+        requires { Agrees self.now.plan }
+        ensures { meant line_view (coded result) ≡ queue_line (view_of self.now.plan.parts) (map (λ w. w.now) words.now) }
     {
         match *words {
             [name, kind] => self.object_line(name, both(queue_kind(kind), Ok(ROOT)), true, ""),
@@ -114,8 +114,8 @@ impl<'a> Draft<'a> {
 
     /// `group G` (dispatch_group_create(3)).
     pub fn group_line(&self, words: &[&'a str]) -> Meant<Line<&'a str>>
-        requires { DraftAgrees self.now }
-        ensures { meant line_view (coded result) ≡ group_line (view_of self.now.parts) (map (λ w. w.now) words.now) }
+        requires { Agrees self.now.plan }
+        ensures { meant line_view (coded result) ≡ group_line (view_of self.now.plan.parts) (map (λ w. w.now) words.now) }
     {
         match *words {
             [name] => self.object_line(name, Ok((Kind::Group, ROOT)), true, ""),
@@ -125,8 +125,8 @@ impl<'a> Draft<'a> {
 
     /// `semaphore S N` (dispatch_semaphore_create(3)).
     pub fn semaphore_line(&self, words: &[&'a str]) -> Meant<Line<&'a str>>
-        requires { DraftAgrees self.now }
-        ensures { meant line_view (coded result) ≡ semaphore_line (view_of self.now.parts) (map (λ w. w.now) words.now) }
+        requires { Agrees self.now.plan }
+        ensures { meant line_view (coded result) ≡ semaphore_line (view_of self.now.plan.parts) (map (λ w. w.now) words.now) }
     {
         match *words {
             [name, value] => self.object_line(name, semaphore_kind(value), true, ""),
@@ -137,8 +137,8 @@ impl<'a> Draft<'a> {
     /// `source S add on T`, `source S or on T`, `source S read PATH on T`, `source S timer START EVERY on T`
     /// (dispatch_source_create(3)).
     pub fn source_line(&self, words: &[&'a str]) -> Meant<Line<&'a str>>
-        requires { DraftAgrees self.now }
-        ensures { meant line_view (coded result) ≡ source_line (view_of self.now.parts) (map (λ w. w.now) words.now) }
+        requires { Agrees self.now.plan }
+        ensures { meant line_view (coded result) ≡ source_line (view_of self.now.plan.parts) (map (λ w. w.now) words.now) }
     {
         match *words {
             [name, kind, on, target] => self.merge_source(name, kind, on, target),
@@ -157,8 +157,8 @@ impl<'a> Draft<'a> {
         on: &str,
         target: &str,
     ) -> Meant<Line<&'a str>>
-        requires { DraftAgrees self.now }
-        ensures { meant line_view (coded result) ≡ source_line (view_of self.now.parts) (name.now ∷ kind.now ∷ on.now ∷ target.now ∷ []) }
+        requires { Agrees self.now.plan }
+        ensures { meant line_view (coded result) ≡ source_line (view_of self.now.plan.parts) (name.now ∷ kind.now ∷ on.now ∷ target.now ∷ []) }
     {
         if on != "on" {
             return Err(Cause::Misplaced {
@@ -178,8 +178,8 @@ impl<'a> Draft<'a> {
         on: &str,
         target: &str,
     ) -> Meant<Line<&'a str>>
-        requires { DraftAgrees self.now }
-        ensures { meant line_view (coded result) ≡ source_line (view_of self.now.parts) (name.now ∷ read.now ∷ feed.now ∷ on.now ∷ target.now ∷ []) }
+        requires { Agrees self.now.plan }
+        ensures { meant line_view (coded result) ≡ source_line (view_of self.now.plan.parts) (name.now ∷ read.now ∷ feed.now ∷ on.now ∷ target.now ∷ []) }
     {
         if read != "read" {
             return Err(Cause::Misplaced {
@@ -204,9 +204,9 @@ impl<'a> Draft<'a> {
         on: &str,
         target: &str,
     ) -> Meant<Line<&'a str>>
-        requires { DraftAgrees self.now }
+        requires { Agrees self.now.plan }
         ensures { meant line_view (coded result) ≡ given (bytes_eq timer.now (codes "timer") && bytes_eq on.now (codes "on"))
-            (object_line (view_of self.now.parts) name.now (both (coded kind) (queue (view_of self.now.parts) target.now)) false []) }
+            (object_line (view_of self.now.plan.parts) name.now (both (coded kind) (queue (view_of self.now.plan.parts) target.now)) false []) }
     {
         if timer != "timer" {
             return Err(Cause::Misplaced {
@@ -226,8 +226,8 @@ impl<'a> Draft<'a> {
 
     // A read source of this feed on this target.
     fn read_kind(&self, feed: &str, target: &str) -> Meant<(Kind, Obj)>
-        requires { DraftAgrees self.now }
-        ensures { coded result ≡ meant (λ (fits, queue). (Read, queue)) (both (path feed.now) (queue (view_of self.now.parts) target.now)) }
+        requires { Agrees self.now.plan }
+        ensures { coded result ≡ meant (λ (fits, queue). (Read, queue)) (both (path feed.now) (queue (view_of self.now.plan.parts) target.now)) }
     {
         let ((), queue) = both(path(4, feed), self.object(Asked::Queue, 6, target))?;
         Ok((Kind::Read, queue))
@@ -235,8 +235,8 @@ impl<'a> Draft<'a> {
 
     /// `cancelled S B` (dispatch_source_set_cancel_handler(3)).
     pub fn cancelled_line(&self, words: &[&'a str]) -> Meant<Line<&'a str>>
-        requires { DraftAgrees self.now }
-        ensures { meant line_view (coded result) ≡ cancelled_line (view_of self.now.parts) (map (λ w. w.now) words.now) }
+        requires { Agrees self.now.plan }
+        ensures { meant line_view (coded result) ≡ cancelled_line (view_of self.now.plan.parts) (map (λ w. w.now) words.now) }
     {
         match *words {
             [source, block] => {
@@ -263,8 +263,8 @@ impl<'a> Draft<'a> {
     }
 
     fn plain_block(&self, name: &'a str) -> Meant<Line<&'a str>>
-        requires { DraftAgrees self.now }
-        ensures { meant line_view (coded result) ≡ block_line (view_of self.now.parts) (name.now ∷ []) }
+        requires { Agrees self.now.plan }
+        ensures { meant line_view (coded result) ≡ block_line (view_of self.now.plan.parts) (name.now ∷ []) }
     {
         self.new_name(name)?;
         Ok(Line::DeclareBlock { name, work: None })
@@ -278,8 +278,8 @@ impl<'a> Draft<'a> {
         file: Meant<u32>,
         part: Meant<(u32, u32)>,
     ) -> Meant<Line<&'a str>>
-        requires { DraftAgrees self.now }
-        ensures { meant line_view (coded result) ≡ work_line (view_of self.now.parts) name.now (work (coded how) (coded file) (coded part)) }
+        requires { Agrees self.now.plan }
+        ensures { meant line_view (coded result) ≡ work_line (view_of self.now.plan.parts) name.now (work (coded how) (coded file) (coded part)) }
     {
         let work = work(how, file, part);
         let ((), work) = both(self.new_name(name), work)?;
@@ -298,9 +298,9 @@ impl<'a> Draft<'a> {
         from: &str,
         part: Meant<(u32, u32)>,
     ) -> Meant<Line<&'a str>>
-        requires { DraftAgrees self.now }
+        requires { Agrees self.now.plan }
         ensures { meant line_view (coded result) ≡ given (bytes_eq count.now (codes "count"))
-            (work_line (view_of self.now.parts) name.now (work (counting value.now) (file (view_of self.now.parts) from.now) (coded part))) }
+            (work_line (view_of self.now.plan.parts) name.now (work (counting value.now) (file (view_of self.now.plan.parts) from.now) (coded part))) }
     {
         if count != "count" {
             return Err(Cause::Misplaced {
@@ -313,8 +313,8 @@ impl<'a> Draft<'a> {
 
     /// `block B`, `block B W F`, `block B count V F`, `block B W F FROM LEN`, `block B count V F FROM LEN`.
     pub fn block_line(&self, words: &[&'a str]) -> Meant<Line<&'a str>>
-        requires { DraftAgrees self.now }
-        ensures { meant line_view (coded result) ≡ block_line (view_of self.now.parts) (map (λ w. w.now) words.now) }
+        requires { Agrees self.now.plan }
+        ensures { meant line_view (coded result) ≡ block_line (view_of self.now.plan.parts) (map (λ w. w.now) words.now) }
     {
         match *words {
             [name] => self.plain_block(name),
@@ -345,8 +345,8 @@ impl<'a> Draft<'a> {
 
     /// `intake Q N`.
     pub fn intake_line(&self, words: &[&'a str]) -> Meant<Line<&'a str>>
-        requires { DraftAgrees self.now }
-        ensures { meant line_view (coded result) ≡ intake_line (view_of self.now.parts) (map (λ w. w.now) words.now) }
+        requires { Agrees self.now.plan }
+        ensures { meant line_view (coded result) ≡ intake_line (view_of self.now.plan.parts) (map (λ w. w.now) words.now) }
     {
         match *words {
             [queue, count] => self.intake_of(queue, count),
@@ -355,10 +355,10 @@ impl<'a> Draft<'a> {
     }
 
     fn intake_of(&self, queue: &str, blocks: &str) -> Meant<Line<&'a str>>
-        requires { DraftAgrees self.now }
-        ensures { meant line_view (coded result) ≡ intake_line (view_of self.now.parts) (queue.now ∷ blocks.now ∷ []) }
+        requires { Agrees self.now.plan }
+        ensures { meant line_view (coded result) ≡ intake_line (view_of self.now.plan.parts) (queue.now ∷ blocks.now ∷ []) }
     {
-        let first = must(self.has_no_intake(), Cause::SecondIntake);
+        let first = must(self.plan.has_no_intake(), Cause::SecondIntake);
         let what = both(
             self.object(Asked::Queue, 2, queue),
             number(3, Amount::Intake, blocks),
@@ -367,17 +367,10 @@ impl<'a> Draft<'a> {
         Ok(Line::DeclareIntake { queue, count })
     }
 
-    // Whether no line declares an intake.
-    fn has_no_intake(&self) -> bool
-        ensures { result ≡ is_none (view_of self.now.parts).intake }
-    {
-        self.parts.intake.is_none()
-    }
-
     /// `strip A W F LEN N` (dispatch_apply(3)).
     pub fn strip_line(&self, words: &[&'a str]) -> Meant<Line<&'a str>>
-        requires { DraftAgrees self.now }
-        ensures { meant line_view (coded result) ≡ strip_line (view_of self.now.parts) (map (λ w. w.now) words.now) }
+        requires { Agrees self.now.plan }
+        ensures { meant line_view (coded result) ≡ strip_line (view_of self.now.plan.parts) (map (λ w. w.now) words.now) }
     {
         match *words {
             [name, how, file, len, count] => self.named_strip(name, how, file, len, count),
@@ -393,9 +386,9 @@ impl<'a> Draft<'a> {
         len: &str,
         blocks: &str,
     ) -> Meant<(How, (u32, (u32, u32)))>
-        requires { DraftAgrees self.now }
+        requires { Agrees self.now.plan }
         ensures { coded result ≡ both (one_of counts how.now)
-            (both (file (view_of self.now.parts) from.now)
+            (both (file (view_of self.now.plan.parts) from.now)
             (both (number 1 max_file_bytes len.now) (number 0 (max_blocks - 1) blocks.now))) }
     {
         let parts = both(
@@ -413,8 +406,8 @@ impl<'a> Draft<'a> {
         len: &str,
         blocks: &str,
     ) -> Meant<Line<&'a str>>
-        requires { DraftAgrees self.now }
-        ensures { meant line_view (coded result) ≡ strip_line (view_of self.now.parts) (name.now ∷ how.now ∷ file.now ∷ len.now ∷ blocks.now ∷ []) }
+        requires { Agrees self.now.plan }
+        ensures { meant line_view (coded result) ≡ strip_line (view_of self.now.plan.parts) (name.now ∷ how.now ∷ file.now ∷ len.now ∷ blocks.now ∷ []) }
     {
         let what = self.strip_parts(how, file, len, blocks);
         let ((), (how, (file, (len, count)))) = both(self.new_name(name), what)?;
@@ -429,8 +422,8 @@ impl<'a> Draft<'a> {
 
     /// `handler S` (dispatch_source_set_event_handler(3)).
     pub fn handler_line(&self, words: &[&'a str]) -> Meant<Line<&'a str>>
-        requires { DraftAgrees self.now }
-        ensures { meant line_view (coded result) ≡ handler_line (view_of self.now.parts) (map (λ w. w.now) words.now) }
+        requires { Agrees self.now.plan }
+        ensures { meant line_view (coded result) ≡ handler_line (view_of self.now.plan.parts) (map (λ w. w.now) words.now) }
     {
         match *words {
             [source] => {

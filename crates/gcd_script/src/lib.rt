@@ -79,7 +79,6 @@
 #![tactic(auto)]
 
 mod acts;
-mod additions;
 mod amount;
 mod big;
 mod cause;
@@ -87,13 +86,10 @@ mod changes;
 mod declarations;
 mod draft;
 mod fault;
-mod flags;
 mod judge;
 mod keyword;
 pub mod laws;
 mod line;
-mod made;
-mod meaning;
 mod meant;
 mod names;
 mod parser;
@@ -104,6 +100,6 @@ pub use amount::Amount;
 pub use big::big_text;
 pub use cause::{Cause, Choice, Limit};
 pub use fault::ParseFault;
-pub use names::Asked;
+pub use gcd_builder::Asked;
 pub use parser::parse;
 pub use refusal::Refusal;

@@ -2,7 +2,7 @@
 ghost use Rattle.std.specs.Prelude.{◌≡◌, ◌<◌, ◌+◌, Ok, IfOk, IfErr, OnOk, length, option_map};
 ghost use Rattle.std.specs.Option.{option_map_or};
 ghost use Rattle.gcd_plan.specs.Validity.{IsPlan};
-ghost use Rattle.gcd_script.specs.Agreement.{DraftAgrees};
+ghost use Rattle.gcd_builder.specs.Agreement.{Agrees};
 ghost use Rattle.gcd_script.specs.Causes.{HasItsCause, coded};
 ghost use Rattle.gcd_script.specs.Faults.{is_mark, line_meant, after_line, IsScriptOf};
 ghost use Rattle.gcd_script.specs.Meant.{meant};
@@ -35,7 +35,7 @@ fn is_mark(word: &str) -> bool
 // What a line means; None where it is skipped.
 #[inline(always)]
 fn line_meant<'a>(draft: &Draft<'a>, line: &'a [u8]) -> Meant<Option<Line<&'a str>>>
-    requires { DraftAgrees draft.now }
+    requires { Agrees draft.now.plan }
     ensures { meant (option_map line_view) (coded result) ≡ line_meant (draft_view draft.now) line.now }
 {
     let Some(text) = printable(line) else {
@@ -56,11 +56,11 @@ fn line_meant<'a>(draft: &Draft<'a>, line: &'a [u8]) -> Meant<Option<Line<&'a st
 
 // Takes one line more. After an error the draft is of no use.
 fn take_line<'a>(draft: &mut Draft<'a>, alloc: Global, line: &'a [u8]) -> Result<(), ParseFault>
-    requires agrees { DraftAgrees draft.old }
+    requires agrees { Agrees draft.old.plan }
     requires sound { IsDraft (draft_view draft.old) }
     requires room { draft.old.lines < u32.MAX }
     ensures view { OnOk result (after_line (draft_view draft.old) line.now ≡ Ok (draft_view draft.new)) }
-    ensures agrees { OnOk result (DraftAgrees draft.new) }
+    ensures agrees { OnOk result (Agrees draft.new.plan) }
     ensures sound { OnOk result (IsDraft (draft_view draft.new)) }
     ensures counted { OnOk result (draft.new.lines ≡ draft.old.lines + 1) }
     ensures refused { IfErr result (IsLineRefusal (draft_view draft.old) line.now) }
@@ -102,5 +102,5 @@ pub fn parse(alloc: Global, bytes: &[u8]) -> Result<Plan, ParseFault>
     if !draft.has_main {
         return Err(ParseFault::refused(draft.lines + 1, Cause::NoMain));
     }
-    Ok(Plan::of_valid_parts(draft.into_parts()).share(alloc)?)
+    Ok(Plan::of_valid_parts(draft.plan.into_parts()).share(alloc)?)
 }

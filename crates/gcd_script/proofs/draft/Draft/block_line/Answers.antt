@@ -9,7 +9,7 @@ use Rattle.gcd_script.proofs.draft.Draft.block_line.Goals.{in_default-via-then-w
 pub returns-in_default : goal.returns-in_default
 returns-in_default c =
     let words = c.args.words.now in
-    let plan = view_of c.args.self.now.parts in
+    let plan = view_of c.args.self.now.plan.parts in
     let texts = map (λ (w : Bor (List ℕ)). w.now) words in
     let count = length-map words (λ (w : Bor (List ℕ)). w.now) in
     elim c.in_default.branch [

@@ -8,10 +8,10 @@ pub returns-in_default : goal.returns-in_default
 returns-in_default c =
     let words = c.args.words.now in
     let count = length-map words (λ (w : Bor (List ℕ)). w.now) in
-    sym (group_other (view_of c.args.self.now.parts) c.args.how (map (λ (w : Bor (List ℕ)). w.now) words) (inl (omega arith)))
+    sym (group_other (view_of c.args.self.now.plan.parts) c.args.how (map (λ (w : Bor (List ℕ)). w.now) words) (inl (omega arith)))
 
 pub returns-in_default-2 : goal.returns-in_default-2
 returns-in_default-2 c =
     let words = c.args.words.now in
     let count = length-map words (λ (w : Bor (List ℕ)). w.now) in
-    sym (group_other (view_of c.args.self.now.parts) c.args.how (map (λ (w : Bor (List ℕ)). w.now) words) (inr (omega arith)))
+    sym (group_other (view_of c.args.self.now.plan.parts) c.args.how (map (λ (w : Bor (List ℕ)). w.now) words) (inr (omega arith)))

@@ -10,7 +10,7 @@ pub returns-in_default : goal.returns-in_default
 returns-in_default c =
     let words = c.args.words.now in
     let count = length-map words (λ (w : Bor (List ℕ)). w.now) in
-    sym (queue_other (view_of c.args.self.now.parts) (map (λ (w : Bor (List ℕ)). w.now) words)
+    sym (queue_other (view_of c.args.self.now.plan.parts) (map (λ (w : Bor (List ℕ)). w.now) words)
     (elim c.in_default.branch [
       | in_default-via-then-words-lt2 w ↦ inl (omega (arith, ltb-true, ltb-false, leb-true, leb-false))
       | in_default-via-else-words-lt2+else-words-lt3+else-words-lt4+else-words-lt5+else-words-lt6 w ↦ inr (omega (arith, ltb-true, ltb-false, leb-true, leb-false))

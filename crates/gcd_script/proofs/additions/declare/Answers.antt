@@ -1,5 +1,0 @@
-use Rattle.std.proofs.lemmas.Map.Text.{hash_map_updates_str}
-use Rattle.gcd_script.proofs.additions.declare.Goals as goal
-
-pub returns : goal.returns
-returns c = hash_map_updates_str c.args.name.now c.args.meanings.now c.insert.new.self _ c.in_ok-insert.ensures.updates

@@ -1,5 +1,0 @@
-use Rattle.gcd_script.specs.Agreement.{AreMore}
-use Rattle.gcd_script.proofs.flags.add_flags.Given as goal
-
-abbrev pub invariant-loop : goal.invariant-loop
-invariant-loop l = AreMore l.initial.flags.items l.flags.items l.counter
