@@ -12,8 +12,8 @@ use crate::draft::Draft;
 use crate::keyword::{BlockAct, GroupSubmission, LimitedWait, ObjectAct, Submission};
 use crate::line::Line;
 use crate::meant::{Meant, both};
-use gcd_builder::Asked;
 use crate::words::number;
+use gcd_builder::Asked;
 use gcd_plan::{Act, Blk, Obj, Run};
 
 impl Submission {

@@ -3,8 +3,8 @@ ghost use Rattle.std.specs.Prelude.{◌≡◌};
 ghost use Rattle.gcd_script.specs.Causes.{cause_refusal, cause_code};
 
 use crate::amount::Amount;
-use gcd_builder::Asked;
 use crate::refusal::Refusal;
+use gcd_builder::Asked;
 
 /// A word that a form spells out, or a choice of such words.
 #[derive(Clone, Copy)]

@@ -15,8 +15,8 @@ use crate::cause::{Cause, Choice};
 use crate::draft::Draft;
 use crate::line::Line;
 use crate::meant::{Meant, both, must};
-use gcd_builder::Asked;
 use crate::words::{count, counting, merge_kind, number, path, queue_kind, range, work};
+use gcd_builder::Asked;
 use gcd_plan::{How, Kind, Obj, WHOLE_FILE};
 
 const ROOT: Obj = Obj(0);
@@ -93,23 +93,37 @@ impl<'a> Draft<'a> {
                 self.object_line(name, both(queue_kind(kind), target), true, "")
             }
             [name, kind, on, target, inactive] => {
-                if on != "on" {
-                    return Err(Cause::Misplaced {
-                        place: 4,
-                        expected: Choice::On,
-                    });
-                }
-                if inactive != "inactive" {
-                    return Err(Cause::Misplaced {
-                        place: 6,
-                        expected: Choice::Inactive,
-                    });
-                }
-                let target = self.object(Asked::Queue, 5, target);
-                self.object_line(name, both(queue_kind(kind), target), false, "")
+                self.inactive_queue_on(name, kind, on, target, inactive)
             }
             _ => Err(Cause::WordCount),
         }
+    }
+
+    fn inactive_queue_on(
+        &self,
+        name: &'a str,
+        kind: &str,
+        on: &str,
+        target: &str,
+        inactive: &str,
+    ) -> Meant<Line<&'a str>>
+        requires { Agrees self.now.plan }
+        ensures { meant line_view (coded result) ≡ queue_line (view_of self.now.plan.parts) (name.now ∷ kind.now ∷ on.now ∷ target.now ∷ inactive.now ∷ []) }
+    {
+        if on != "on" {
+            return Err(Cause::Misplaced {
+                place: 4,
+                expected: Choice::On,
+            });
+        }
+        if inactive != "inactive" {
+            return Err(Cause::Misplaced {
+                place: 6,
+                expected: Choice::Inactive,
+            });
+        }
+        let target = self.object(Asked::Queue, 5, target);
+        self.object_line(name, both(queue_kind(kind), target), false, "")
     }
 
     /// `group G` (dispatch_group_create(3)).

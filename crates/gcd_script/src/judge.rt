@@ -97,7 +97,8 @@ impl<'a> Draft<'a> {
             Line::DeclareObject { .. } => true,
             Line::DeclareBlock { .. } => true,
             Line::SetUntil(_) => true,
-            Line::SetCancel { source, block } => self.plan.is_free(block) && self.plan.lacks_cancel(source),
+            Line::SetCancel { source, block } => self.plan.is_free(block)
+                && self.plan.lacks_cancel(source),
             Line::OpenHandler(s) => !self.handlers.get(s.0 as usize).copied().unwrap_or(false),
             Line::OpenMain => true,
             Line::AddAct(_, act) => self.plan.is_untaken_by(act),
