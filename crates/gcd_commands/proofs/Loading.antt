@@ -1,7 +1,6 @@
 -- What one load saw of a shelf, said of all loads of a call; and how many loads were made.
-use Rattle.std.proofs.Common.{None, ◌≡◌, ◌≤◌, ◌<◌, ◌∙◌, ℕ, zero, suc, List, [], ◌∷◌, ◌++◌, ◌+◌, length, map, take, get_or, Vec, Global, Option, Some, option_map, refl, ap, sym, subst, inl, inr, arith, zero-add}
-use Rattle.std.specs.Prelude.{Result, Ok, Err, IfErr, OnErr}
-use Rattle.std.specs.Result.{IsErrAnd}
+use Rattle.std.proofs.Common.{None, ◌≡◌, ◌≤◌, ◌<◌, ◌∙◌, ℕ, zero, suc, List, [], ◌∷◌, ◌++◌, ◌+◌, length, map, take, get_or, Vec, Global, Option, Some, option_map, refl, ap, sym, inl, inr, arith, zero-add}
+use Rattle.std.specs.Prelude.{Result, Ok, Err, OnErr}
 use Rattle.std.specs.String.{string_bytes}
 use Rattle.std.proofs.lemmas.List.{take_more, take-map, map-append, length-map}
 use Rattle.std.proofs.lemmas.Option.{slice_get-map, slice_get-get_or, slice_get_within}
@@ -168,11 +167,6 @@ pub file_within : (shelf : Seen ShelfState) (files : List FileView) (f : ℕ) (s
 file_within shelf files f stop stops = omega (arith, slice_get_within files f stops.file stops.next.next)
 
 -- ## Errors that are handed on
-
--- what holds of an error holds of the same error, handed on
-pub handed_on : {T E : Type 0} (Q : E → Type 0) (r : Result T E) (e : E) → IsErrAnd r (λ y. y ≡ e) → Q e → IfErr r Q
-handed_on Q (Ok x) e is holds = tt
-handed_on Q (Err y) e is holds = subst Q (sym is) holds
 
 -- where something holds anyway, it holds at each error
 pub on_any_err : {T E Q : Type 0} (r : Result T E) → Q → OnErr r Q

@@ -5,7 +5,8 @@ use Rattle.gcd_commands.specs.Checks.CheckEnds.{judged}
 use Rattle.gcd_commands.specs.Hands.HandsPlan.{read as hands_plan}
 use Rattle.gcd_commands.specs.Checks.StopsCheck.{at_script, at_journal}
 use Rattle.gcd_commands.specs.Checks.StopsJournal.{wanting}
-use Rattle.gcd_commands.proofs.Loading.{SameShelf, handed_on, journal_since, loaded_same, made_later, plan_since}
+use Rattle.gcd_builder.proofs.Refused.{handed_on}
+use Rattle.gcd_commands.proofs.Loading.{SameShelf, journal_since, loaded_same, made_later, plan_since}
 use Rattle.gcd_commands.proofs.checking.check_journal.Goals as goal
 
 pub returns-in_err-plan-clause-stopped : goal.returns-in_err-plan-clause-stopped

@@ -2,7 +2,7 @@ use Rattle.std.proofs.Common.{◌+◌, map, length, refl}
 use Rattle.gcd_commands.specs.Fronts.FrontEnds.{ran}
 use Rattle.gcd_commands.specs.Hands.HandsPlan.{read as hands_plan}
 use Rattle.gcd_commands.specs.Fronts.StopsFront.{wanting}
-use Rattle.gcd_commands.proofs.Loading.{handed_on}
+use Rattle.gcd_builder.proofs.Refused.{handed_on}
 use Rattle.gcd_commands.proofs.front.front_script.Goals as goal
 
 pub returns-in_err-plan-clause-stopped : goal.returns-in_err-plan-clause-stopped

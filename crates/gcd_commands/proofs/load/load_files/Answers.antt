@@ -5,7 +5,8 @@ use Rattle.gcd_plan.specs.PlanView.{file_view}
 use Rattle.gcd_outer.specs.Outside.{Seen, ShelfState, seen, next_count}
 use Rattle.gcd_commands.specs.Loads.{StopsFile, StopsFiles}
 use Rattle.gcd_commands.specs.Loads.StopsLoad.{wanting}
-use Rattle.gcd_commands.proofs.Loading.{SameShelf, loaded_same, are_loaded_same, loaded_more, next_file, file_since, count_more, handed_on}
+use Rattle.gcd_builder.proofs.Refused.{handed_on}
+use Rattle.gcd_commands.proofs.Loading.{SameShelf, loaded_same, are_loaded_same, loaded_more, next_file, file_since, count_more}
 use Rattle.gcd_commands.proofs.load.load_files.Goals as goal
 
 pub loop-file-preserved : goal.loop-file-preserved

@@ -3,7 +3,8 @@ use Rattle.std.proofs.lemmas.List.{length-map}
 use Rattle.gcd_plan.specs.PlanView.{file_view, intake_view}
 use Rattle.gcd_outer.specs.Outside.{Seen, ShelfState, seen}
 use Rattle.gcd_commands.specs.Fronts.StopsFront.{at_script, at_intake, at_file}
-use Rattle.gcd_commands.proofs.Loading.{SameShelf, are_loaded_same, file_since, handed_on, made_later, none_of, plan_since}
+use Rattle.gcd_builder.proofs.Refused.{handed_on}
+use Rattle.gcd_commands.proofs.Loading.{SameShelf, are_loaded_same, file_since, made_later, none_of, plan_since}
 use Rattle.gcd_commands.proofs.load.load_front.Goals as goal
 
 pub returns-in_err-plan-clause-stopped : goal.returns-in_err-plan-clause-stopped

@@ -4,7 +4,8 @@ use Rattle.gcd_commands.specs.Calls.{only_loads, failed_listen, with_listen}
 use Rattle.gcd_commands.specs.Hands.HandsRun.{ran as hands_run}
 use Rattle.gcd_commands.specs.Runs.RunEnds.{ran}
 use Rattle.gcd_commands.specs.Runs.StopsRun.{unready, at_listen, wanting}
-use Rattle.gcd_commands.proofs.Loading.{handed_on, loaded_count}
+use Rattle.gcd_builder.proofs.Refused.{handed_on}
+use Rattle.gcd_commands.proofs.Loading.{loaded_count}
 use Rattle.gcd_commands.proofs.Hearing.{SameHearing, listening_more, quiet, tells_since}
 use Rattle.gcd_commands.proofs.running.run_script.Goals as goal
 
