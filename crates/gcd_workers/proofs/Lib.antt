@@ -1,3 +1,6 @@
+pub mod AloneEnd
+pub mod AloneSteps
+pub mod Calls
 pub mod Giving
 pub mod GoingOn
 pub mod HandedOver
@@ -14,6 +17,7 @@ pub mod Pools
 pub mod Runs
 pub mod Rushing
 pub mod Senders
+pub mod States
 pub mod Unhalted
 pub mod Tellings
 pub mod Valued

@@ -1,5 +1,9 @@
+pub mod AloneCalls
 pub mod CalledRuns
 pub mod CallersRuns
+pub mod JobStates
+pub mod JobsAlone
+pub mod JobsKept
 pub mod JobsOf
 pub mod JobsRuns
 pub mod ListRuns

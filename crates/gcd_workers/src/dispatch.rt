@@ -9,6 +9,7 @@ ghost use Rattle.gcd_turn.specs.Asked.{KeepsListens};
 ghost use Rattle.gcd_workers.specs.CallersRuns.{RunsFront};
 ghost use Rattle.gcd_workers.specs.declared.refused.RunRefused.{RunRefused};
 
+use crate::jobs_alone::run_by_one;
 use crate::jobs_board::{close, open};
 use crate::ran::Ran;
 use crate::refused::RunRefused;
@@ -52,7 +53,8 @@ impl<J: Job + Drop + Send> Dispatch<'_, J> {
     /// journal, once each block has a job, or once each mouth is shut and all jobs are taken. So if a mouth is never shut, the run waits
     /// until the intake is full. Jobs that are sent beyond that stay in the queue of the front.
     ///
-    /// `poller` and `clock` are the outside, and the poller watches no feed yet. Returns `Err` only if memory runs out, or if the system
+    /// One worker runs alone, in this thread, over a list. `poller` and `clock` are the outside, and the poller watches no feed yet. Returns
+    /// `Err` only if memory runs out, or if the system
     /// makes no thread for a worker on whom all others wait. Before the first turn that is [`RunRefused::BeforeTheRun`], and poller, clock
     /// and intake are as they were (`before`). Later it is [`RunRefused::InTheRun`]: jobs may have run, and jobs that were taken are gone.
     /// Nothing is left of the run: the jobs are dropped, the threads have ended, and the poller listens where it did (`kept`).
@@ -82,6 +84,9 @@ impl<J: Job + Drop + Send> Dispatch<'_, J> {
         ensures kept { KeepsListens P.tells (P.state poller.old) (P.state poller.new) }
         ensures before { IsErrOf result RunRefused.BeforeTheRun → (poller.new ≡ poller.old) × (clock.new ≡ clock.old) × (intake.new ≡ intake.old) }
     {
+        if self.workers == 1 {
+            return run_by_one(rt, alloc, self, front, intake, poller, clock);
+        }
         let Dispatch {
             plan,
             workers,

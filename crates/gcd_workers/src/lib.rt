@@ -11,7 +11,9 @@
 //! | a board with handlers of one's own, and a rack | [`Team`] |
 //!
 //! [`Dispatch::run`] makes rack, board and pool, and a [`Team`] of a hand for each worker, and closes the board at the end. The board is made
-//! for as many workers as there are hands, because a worker that never passes on what it has seen would hold the others.
+//! for as many workers as there are hands, because a worker that never passes on what it has seen would hold the others. For one worker it
+//! makes none of them: worker 0 runs alone over its list, which has a job or a value for each block, and takes the jobs of outside callers
+//! as they come. It starts and ends a block at once where it can.
 //!
 //! [`run_workers`] begins with worker 0 alone, which keeps the events in a list, as [`run_alone`] does to the end. Before the Start of a long
 //! block it asks [`hands_worth`] whether a team pays. If so, a board is made whose row begins with the list. Its slots have the values of the
@@ -22,7 +24,7 @@
 //! A run goes on until it is quiescent or halted, or has so many events as its caller allows, `most`, which may be any number up to
 //! `MAX_EVENTS` of `gcd_plan`. Nothing of that size is taken at once: the journal grows with the run.
 //!
-//! All teams take jobs from a front. Without outside callers that is a front without senders, so nothing is accepted, and an intake of the
+//! All runs of jobs take jobs from a front. Without outside callers that is a front without senders, so nothing is accepted, and an intake of the
 //! plan is shut at once.
 //!
 //! | call | answer |
@@ -94,11 +96,15 @@ mod called;
 mod callers;
 mod callers_refused;
 mod dispatch;
+mod front_idle;
 mod gather;
 mod go_on;
 mod hire;
 mod hiring;
+mod job_state;
+mod jobs_alone;
 mod jobs_board;
+mod jobs_kept;
 mod jobs_refused;
 mod list_run;
 mod nobodys_front;
