@@ -1,19 +1,18 @@
 -- Worker 0 alone between two turns, and what it leaves at the end.
-use Rattle.std.proofs.Common.{◌≡◌, ◌<◌, ◌≤◌, ◌∙◌, ◌++◌, ◌∷◌, ◌⊎◌, ℕ, Bool, true, false, not, List, [], length, map, Option, Some, None, refl, ap, sym, subst, arith, append-nil}
+use Rattle.std.proofs.Common.{◌≡◌, ◌<◌, ◌∙◌, ◌++◌, ◌∷◌, ◌⊎◌, ℕ, Bool, true, false, not, List, [], length, map, Option, Some, refl, ap, sym, subst, arith, append-nil}
 use Rattle.std.specs.Prelude.{slice_get}
-use Rattle.std.specs.List.{AllZip, list_any}
+use Rattle.std.specs.List.{list_any}
 use Rattle.std.specs.Option.{option_map}
-use Rattle.std.proofs.lemmas.Bool.{and_from, both_ways}
+use Rattle.std.proofs.lemmas.Bool.{and_from}
 use Rattle.std.proofs.lemmas.List.{length-map}
 use Rattle.std.proofs.lemmas.Option.{slice_get-map}
 use Rattle.std.proofs.lemmas.Slice.Zip.{AllZip-long}
-use Rattle.gcd_plan.specs.Made.{is_of_intake}
 use Rattle.gcd_plan.specs.PlanView.{PlanView}
 use Rattle.gcd_plan.specs.Validity.{IsPlan}
 use Rattle.gcd_plan.specs.declared.numbers.Blk.{Blk}
 use Rattle.gcd_event.specs.declared.event.Event.{Event}
 use Rattle.gcd_event.specs.declared.event.Event.TheVariants.{Accept, Shut}
-use Rattle.gcd_history.specs.Ends.{HasEnded, HasState}
+use Rattle.gcd_history.specs.Ends.{HasState}
 use Rattle.gcd_history.specs.Facts.{is_of_callers}
 use Rattle.gcd_history.specs.History.{IsLawful, is_block_cancelled, is_ended, is_intake_open}
 use Rattle.gcd_history.specs.Intake.{AcceptsOf, AllAccepted, accepts, blocks_of_sender, shuts}
@@ -21,7 +20,6 @@ use Rattle.gcd_front.specs.Fronts.{KnowsAll, LearnsMore, TakesNext, TookAll}
 use Rattle.gcd_front.specs.Queue.{jobs_of, parcel}
 use Rattle.gcd_front.specs.Views.{FrontView, IntakeView}
 use Rattle.gcd_jobs.specs.BlockValues.{has_given}
-use Rattle.gcd_machine.specs.Stands.{StandsFor}
 use Rattle.gcd_machine.specs.declared.put.Put.{Put}
 use Rattle.gcd_machine.specs.declared.put.Put.TheVariants.{Placed, Barred, Held, Full}
 use Rattle.gcd_machine.proofs.Views.Calls.{lawful_stands, valid_stands}
@@ -32,15 +30,14 @@ use Rattle.gcd_loop.proofs.Follows.{workers_of_alone}
 use Rattle.gcd_loop.proofs.Steps.{runs_plan}
 use Rattle.gcd_loop.specs.Going.{IsRunOn}
 use Rattle.gcd_loop.specs.Ran.{RunsPlan}
-use Rattle.gcd_loop.specs.Recorded.{Admits, Says}
+use Rattle.gcd_loop.specs.Recorded.{Says}
 use Rattle.gcd_row.proofs.Accepted.{next_unaccepted}
 use Rattle.gcd_pool.proofs.Accepting.{unshut}
 use Rattle.gcd_workers.specs.AloneCalls.{ComesOf, HaveCalls, Stays}
 use Rattle.gcd_workers.specs.CallersRuns.{AreGivenBeside, OfSender, RanFor, RunsFront}
 use Rattle.gcd_workers.specs.JobsAlone.{HasGoneAlone}
 use Rattle.gcd_workers.specs.JobsKept.{IsAcceptedAlone, IsAlone, IsJobsKept, WasPutAlone, jobs_sight}
-use Rattle.gcd_workers.specs.JobsRuns.{IsGiven}
-use Rattle.gcd_workers.specs.JobStates.{ComesToNoMore, MayCome, said}
+use Rattle.gcd_workers.specs.JobStates.{ComesToNoMore, said}
 use Rattle.gcd_workers.specs.declared.dispatch.Dispatch.{Dispatch}
 use Rattle.gcd_workers.specs.declared.job_state.JobState.{JobState}
 use Rattle.gcd_workers.specs.declared.job_state.JobState.TheVariants.{Gave, Waits}

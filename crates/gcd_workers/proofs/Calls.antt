@@ -1,5 +1,5 @@
 -- What worker 0 alone took of outside callers, a step on.
-use Rattle.std.proofs.Common.{◌≡◌, ◌≢◌, ◌<◌, ◌≤◌, ◌∙◌, ◌==◌, ◌||◌, ◌⊎◌, ⊎_elim, inl, inr, ℕ, Bool, true, false, not, if◌then◌else◌, List, [], ◌∷◌, ◌++◌, Some, None, refl, ap, sym, subst, arith, append-nil, eq-eqb, ne_eqb}
+use Rattle.std.proofs.Common.{◌≡◌, ◌≢◌, ◌<◌, ◌∙◌, ◌==◌, ◌||◌, ◌⊎◌, ⊎_elim, inl, inr, ℕ, Bool, true, false, not, if◌then◌else◌, List, [], ◌∷◌, ◌++◌, Some, None, refl, ap, sym, subst, arith, append-nil, eq-eqb, ne_eqb}
 use Rattle.std.specs.Prelude.{slice_set}
 use Rattle.std.specs.List.{AllZip, cons_option, filter_map, list_all, list_any}
 use Rattle.std.proofs.lemmas.Bool.{and_from, and_parts, both_ways, not-true, or_parts}
@@ -18,7 +18,6 @@ use Rattle.gcd_front.specs.Queue.{jobs_of, parcel}
 use Rattle.gcd_front.specs.Views.{FrontView, IntakeView}
 use Rattle.gcd_front.specs.declared.ledger.Parcel.{Parcel}
 use Rattle.gcd_workers.specs.AloneCalls.{AreAccepted, CallsStay, ComesOf, HaveCalls, Stays}
-use Rattle.gcd_workers.specs.JobStates.{MayCome}
 use Rattle.gcd_workers.specs.declared.job_state.JobState.{JobState}
 use Rattle.gcd_workers.specs.declared.job_state.JobState.TheVariants.{Waits}
 use Rattle.gcd_workers.proofs.States.{laid_here, laid_other}

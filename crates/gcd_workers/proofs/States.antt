@@ -1,8 +1,8 @@
 -- The states of jobs, a step on.
-use Rattle.std.proofs.Common.{◌≡◌, ◌≢◌, ◌<◌, ◌∙◌, ◌==◌, ◌&&◌, ◌||◌, ℕ, Bool, true, false, not, List, [], ◌∷◌, ◌++◌, length, map, Option, Some, None, refl, ap, sym, subst, arith, ⊎_elim, eq-eqb, eqb-true}
+use Rattle.std.proofs.Common.{◌≡◌, ◌≢◌, ◌<◌, ◌∙◌, ◌&&◌, ℕ, Bool, true, false, not, List, [], ◌∷◌, ◌++◌, length, map, Option, Some, None, refl, ap, sym, subst, arith, ⊎_elim, eqb-true}
 use Rattle.std.specs.Prelude.{slice_get, slice_set, reverse}
 use Rattle.std.specs.Option.{option_map}
-use Rattle.std.proofs.lemmas.Bool.{and_parts, both_ways, cases_eq, ne_eqb, not-true}
+use Rattle.std.proofs.lemmas.Bool.{both_ways, cases_eq}
 use Rattle.std.proofs.lemmas.List.{length-map, length-set, get_or-set_other}
 use Rattle.std.proofs.lemmas.Option.{same_Some, slice_get-get_or, slice_get-map, slice_get_within}
 use Rattle.gcd_facts.proofs.Lists.{slice_get-set_same}
@@ -21,7 +21,7 @@ use Rattle.gcd_history.proofs.Permitted.Lawful.{lawful_after}
 use Rattle.gcd_history.proofs.Permitted.Reasons.{at_end}
 use Rattle.gcd_jobs.specs.BlockValues.{has_given}
 use Rattle.gcd_jobs.proofs.ValuesMore.{given_kept, given_of_other, given_of_own}
-use Rattle.gcd_workers.specs.JobStates.{AreOwn, AreStates, HasRun, MayCome, ComesToNoMore, may_come, said}
+use Rattle.gcd_workers.specs.JobStates.{AreOwn, AreStates, HasRun, MayCome, ComesToNoMore, may_come}
 use Rattle.gcd_workers.specs.declared.job_state.JobState.{JobState}
 use Rattle.gcd_workers.specs.declared.job_state.JobState.TheVariants.{Waits, Gave}
 

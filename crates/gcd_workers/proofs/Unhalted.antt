@@ -1,5 +1,5 @@
 -- A poller that never fails halts no run.
-use Rattle.std.proofs.Common.{◌≤◌, min, ◌+◌, arith}
+use Rattle.std.proofs.Common.{arith}
 use Rattle.gcd_outer.specs.Outside.{Rises}
 
 pub never_rises : Rises 0 0 → ⊥

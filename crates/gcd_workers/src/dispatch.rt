@@ -1,4 +1,4 @@
-// A run of jobs by a team, beside a front.
+// A run of jobs beside a front.
 ghost use Rattle.std.specs.Prelude.{◌≡◌, ◌<◌, ◌≤◌, ℕ, false, [], IfOk, IsErrOf, length};
 ghost use Rattle.gcd_front.specs.Fronts.{IsIntakeOf};
 ghost use Rattle.gcd_front.specs.Limits.{max_senders};
@@ -9,7 +9,6 @@ ghost use Rattle.gcd_turn.specs.Asked.{KeepsListens};
 ghost use Rattle.gcd_workers.specs.CallersRuns.{RunsFront};
 ghost use Rattle.gcd_workers.specs.declared.refused.RunRefused.{RunRefused};
 
-use crate::jobs_alone::run_by_one;
 use crate::jobs_board::{close, open};
 use crate::ran::Ran;
 use crate::refused::RunRefused;
@@ -54,10 +53,10 @@ impl<J: Job + Drop + Send> Dispatch<'_, J> {
     /// until the intake is full. Jobs that are sent beyond that stay in the queue of the front.
     ///
     /// One worker runs alone, in this thread, over a list. `poller` and `clock` are the outside, and the poller watches no feed yet. Returns
-    /// `Err` only if memory runs out, or if the system
-    /// makes no thread for a worker on whom all others wait. Before the first turn that is [`RunRefused::BeforeTheRun`], and poller, clock
-    /// and intake are as they were (`before`). Later it is [`RunRefused::InTheRun`]: jobs may have run, and jobs that were taken are gone.
-    /// Nothing is left of the run: the jobs are dropped, the threads have ended, and the poller listens where it did (`kept`).
+    /// `Err` only if memory runs out, or if the system makes no thread for a worker on whom all others wait. Before the first turn that is
+    /// [`RunRefused::BeforeTheRun`], and poller, clock and intake are as they were (`before`). Later it is [`RunRefused::InTheRun`]: jobs
+    /// may have run, and jobs that were taken are gone. Nothing is left of the run: the jobs are dropped, the threads have ended, and the
+    /// poller listens where it did (`kept`).
     pub fn run<X: Sent + Drop + Send, R: Threads + Wait + Sync, P: Poller, C: Clock>(
         self,
         rt: &R,
@@ -85,7 +84,7 @@ impl<J: Job + Drop + Send> Dispatch<'_, J> {
         ensures before { IsErrOf result RunRefused.BeforeTheRun → (poller.new ≡ poller.old) × (clock.new ≡ clock.old) × (intake.new ≡ intake.old) }
     {
         if self.workers == 1 {
-            return run_by_one(rt, alloc, self, front, intake, poller, clock);
+            return self.run_by_one(rt, alloc, front, intake, poller, clock);
         }
         let Dispatch {
             plan,

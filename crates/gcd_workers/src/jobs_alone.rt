@@ -239,56 +239,58 @@ fn run_kept<J: Job + Admits<X> + Drop, X: Sent + Drop, R: Wait, P: Poller, C: Cl
     Ok(())
 }
 
-/// Runs what was given by worker 0 alone, in this thread, as [`Dispatch::run`] does.
-pub(crate) fn run_by_one<J, X, R: Wait, P: Poller, C: Clock>(
-    rt: &R,
-    alloc: Global,
-    dispatch: Dispatch<J>,
-    front: &Front<X>,
-    intake: &mut Intake<X>,
-    poller: &mut P,
-    clock: &mut C,
-) -> Result<Ran, RunRefused>
-where
-    J: Job + Admits<X> + Drop,
-    X: Sent + Drop,
-    requires jobs { length dispatch.jobs.items ≡ length dispatch.plan.now.blocks }
-    requires workers { dispatch.workers ≡ 1 }
-    requires most { 0 < dispatch.most }
-    requires few { front.now.senders ≤ max_senders }
-    requires intake { IsIntakeOf front.now intake.old }
-    requires untaken { intake.old.taken ≡ [] }
-    requires unwatched { (feed : ℕ) → (P.state poller.old).watched feed ≡ false }
-    ensures ran { IfOk result (RunsFront J.gives X.gives dispatch.entry front.now intake.new
-        (seen P.tells P.state poller.old poller.new)
-        (seen C.tells C.state clock.old clock.new)) }
-    ensures stands { IfOk result (λ run. StandsFor run.machine dispatch.entry.plan.now run.journal.items) }
-    ensures intake { IfOk result (λ _. IsIntakeOf front.now intake.new) }
-    ensures kept { KeepsListens P.tells (P.state poller.old) (P.state poller.new) }
-    ensures before { IsErrOf result RunRefused.BeforeTheRun → (poller.new ≡ poller.old) × (clock.new ≡ clock.old) × (intake.new ≡ intake.old) }
-{
-    let Dispatch {
-        plan,
-        workers: _,
-        most,
-        jobs,
-    } = dispatch;
-    let given = JobsGiven {
-        plan,
-        most,
-        jobs: Snapshot::of(&jobs),
-    };
-    let Ok(mut kept) = JobsKept::new(alloc, &given, jobs) else {
-        return Err(RunRefused::BeforeTheRun);
-    };
-    let mut outside = Outside::new(poller, clock);
-    match run_kept(rt, &given, &mut kept, front, intake, &mut outside) {
-        Ok(()) => {
-            let Ok(ran) = ran_of(alloc, kept) else {
-                return Err(RunRefused::InTheRun);
-            };
-            Ok(ran)
+impl<J: Job + Drop> Dispatch<'_, J> {
+    /// Runs what was given by worker 0 alone, in this thread, as [`Dispatch::run`] does.
+    pub(crate) fn run_by_one<X, R: Wait, P: Poller, C: Clock>(
+        self,
+        rt: &R,
+        alloc: Global,
+        front: &Front<X>,
+        intake: &mut Intake<X>,
+        poller: &mut P,
+        clock: &mut C,
+    ) -> Result<Ran, RunRefused>
+    where
+        J: Admits<X>,
+        X: Sent + Drop,
+        requires jobs { length self.jobs.items ≡ length self.plan.now.blocks }
+        requires workers { self.workers ≡ 1 }
+        requires most { 0 < self.most }
+        requires few { front.now.senders ≤ max_senders }
+        requires intake { IsIntakeOf front.now intake.old }
+        requires untaken { intake.old.taken ≡ [] }
+        requires unwatched { (feed : ℕ) → (P.state poller.old).watched feed ≡ false }
+        ensures ran { IfOk result (RunsFront J.gives X.gives self.entry front.now intake.new
+            (seen P.tells P.state poller.old poller.new)
+            (seen C.tells C.state clock.old clock.new)) }
+        ensures stands { IfOk result (λ run. StandsFor run.machine self.entry.plan.now run.journal.items) }
+        ensures intake { IfOk result (λ _. IsIntakeOf front.now intake.new) }
+        ensures kept { KeepsListens P.tells (P.state poller.old) (P.state poller.new) }
+        ensures before { IsErrOf result RunRefused.BeforeTheRun → (poller.new ≡ poller.old) × (clock.new ≡ clock.old) × (intake.new ≡ intake.old) }
+    {
+        let Dispatch {
+            plan,
+            workers: _,
+            most,
+            jobs,
+        } = self;
+        let given = JobsGiven {
+            plan,
+            most,
+            jobs: Snapshot::of(&jobs),
+        };
+        let Ok(mut kept) = JobsKept::new(alloc, &given, jobs) else {
+            return Err(RunRefused::BeforeTheRun);
+        };
+        let mut outside = Outside::new(poller, clock);
+        match run_kept(rt, &given, &mut kept, front, intake, &mut outside) {
+            Ok(()) => {
+                let Ok(ran) = ran_of(alloc, kept) else {
+                    return Err(RunRefused::InTheRun);
+                };
+                Ok(ran)
+            }
+            Err(AllocError) => Err(RunRefused::InTheRun),
         }
-        Err(AllocError) => Err(RunRefused::InTheRun),
     }
 }

@@ -24,8 +24,8 @@
 //! A run goes on until it is quiescent or halted, or has so many events as its caller allows, `most`, which may be any number up to
 //! `MAX_EVENTS` of `gcd_plan`. Nothing of that size is taken at once: the journal grows with the run.
 //!
-//! All runs of jobs take jobs from a front. Without outside callers that is a front without senders, so nothing is accepted, and an intake of the
-//! plan is shut at once.
+//! All runs of jobs take jobs from a front. Without outside callers that is a front without senders, so nothing is accepted, and an intake of
+//! the plan is shut at once.
 //!
 //! | call | answer |
 //! |---|---|

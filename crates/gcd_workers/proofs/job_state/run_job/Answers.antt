@@ -1,9 +1,7 @@
-use Rattle.std.proofs.Common.{◌≡◌, ◌∙◌, Some, rules, ap, sym}
-use Rattle.std.specs.Prelude.{slice_get}
+use Rattle.std.proofs.Common.{◌∙◌, Some, rules, ap, sym}
 use Rattle.std.proofs.lemmas.List.{set-set}
 use Rattle.std.proofs.lemmas.Option.{slice_get-get_or, slice_get_within}
 use Rattle.gcd_workers.specs.declared.job_state.JobState.TheVariants.{Waits, Gave}
-use Rattle.gcd_workers.proofs.Calls.{calls_accepted}
 use Rattle.gcd_workers.proofs.job_state.run_job.Goals as goal
 
 pub returns : goal.returns

@@ -1,7 +1,6 @@
-use Rattle.std.proofs.Common.{◌<◌, inr, refl, sym, subst, arith}
+use Rattle.std.proofs.Common.{inr, refl, sym, subst, arith}
 use Rattle.gcd_event.specs.declared.event.Event.TheVariants.{Accept, Shut}
 use Rattle.gcd_front.specs.Fronts.{KnowsAll, TookAll}
-use Rattle.gcd_front.specs.Limits.{max_senders}
 use Rattle.gcd_workers.specs.JobsKept.{IsAlone}
 use Rattle.gcd_workers.proofs.AloneEnd.{accepted_alone, accepted_said, learns_alone, shut_alone}
 use Rattle.gcd_workers.proofs.jobs_alone.take_in.Goals as goal

@@ -1,4 +1,4 @@
-use Rattle.std.proofs.Common.{◌≡◌, ◌∙◌, ap, arith, sym}
+use Rattle.std.proofs.Common.{arith}
 use Rattle.gcd_loop.proofs.Follows.{alone_none, follows_none}
 use Rattle.gcd_workers.proofs.States.{own_first, states_first}
 use Rattle.gcd_workers.proofs.jobs_kept.JobsKept.new.Goals as goal

@@ -1,4 +1,4 @@
-use Rattle.std.proofs.Common.{◌≡◌, refl, arith}
+use Rattle.std.proofs.Common.{refl, arith}
 use Rattle.gcd_loop.proofs.Rushes.{rushed_none, rushed_on}
 use Rattle.gcd_workers.proofs.AloneSteps.{stays_same, stays_through}
 use Rattle.gcd_workers.proofs.jobs_kept.JobsKept.rush_on.Goals as goal

@@ -1,4 +1,4 @@
-use Rattle.std.proofs.Common.{◌≡◌, ◌+◌, length, arith}
+use Rattle.std.proofs.Common.{arith}
 use Rattle.gcd_steal.specs.Racks.{IsBenchOf}
 use Rattle.gcd_workers.proofs.Hires.{all_after, all_first}
 use Rattle.gcd_workers.proofs.room.Room.new.Goals as goal

@@ -1,4 +1,4 @@
-use Rattle.std.proofs.Common.{◌≡◌, ◌∙◌, List, [], length, rules, refl, ap, sym, subst}
+use Rattle.std.proofs.Common.{List, [], rules, refl, sym, subst}
 use Rattle.gcd_event.specs.declared.event.Event.{Event}
 use Rattle.gcd_outer.specs.Outside.{ClockState, Seen}
 use Rattle.gcd_outer.specs.Tells.{PollerState}
@@ -10,12 +10,12 @@ use Rattle.gcd_workers.specs.AloneCalls.{HaveCalls}
 use Rattle.gcd_workers.specs.declared.jobs_kept.JobsGiven.{JobsGiven}
 use Rattle.gcd_workers.proofs.AloneEnd.{alone_as, alone_front}
 use Rattle.gcd_workers.proofs.Calls.{calls_first}
-use Rattle.gcd_workers.proofs.jobs_alone.run_by_one.Goals as goal
+use Rattle.gcd_workers.proofs.dispatch.Dispatch.run_by_one.Goals as goal
 
 pub run_kept-requires : goal.run_kept-requires
 run_kept-requires g c = record {
   ready =
-      let kept = c.in-Ok.kept in let plan = c.args.dispatch.plan.now in
+      let kept = c.in-Ok.kept in let plan = c.args.self.plan.now in
       record {
         run = c.in-Ok.ensures.run;
         few = c.requires.few;
@@ -27,7 +27,7 @@ run_kept-requires g c = record {
 
 pub returns-in-Ok-run_kept-clause-ran : goal.returns-in-Ok-run_kept-clause-ran
 returns-in-Ok-run_kept-clause-ran g c =
-    let d = c.args.dispatch in let plan = d.plan.now in
+    let d = c.args.self in let plan = d.plan.now in
     let given : JobsGiven g.row.J.Denot = record { plan = d.plan; most = d.most; jobs = c.of.result } in
     let kept = c.in-Ok.kept in let last = c.run_kept.new.kept in
     let first = c.new-outside.result in let after = c.run_kept.new.outside in
