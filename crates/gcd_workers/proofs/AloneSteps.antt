@@ -1,18 +1,18 @@
 -- Steps of a run of jobs by worker 0 alone.
 use Rattle.std.specs.Prelude.{OnOk}
-use Rattle.std.proofs.Common.{◌≡◌, ◌<◌, ◌+◌, ◌∙◌, ◌++◌, ◌∷◌, ℕ, Bool, Result, Ok, Err, true, false, List, [], None, Some, length, reverse, refl, ap, sym, subst, arith, append_assoc}
+use Rattle.std.proofs.Common.{◌≡◌, ◌<◌, ◌+◌, ◌∙◌, ◌++◌, ◌∷◌, ℕ, Bool, Result, Ok, Err, true, false, List, [], None, Some, length, refl, ap, sym, subst, arith, append_assoc}
+use Rattle.std.proofs.lemmas.Bool.{and_from, or_parts}
 use Rattle.std.proofs.lemmas.List.{length_push}
 use Rattle.gcd_plan.specs.PlanView.{PlanView}
 use Rattle.gcd_plan.specs.declared.numbers.Blk.{Blk}
 use Rattle.gcd_event.specs.declared.event.Event.{Event}
-use Rattle.gcd_event.specs.declared.event.Event.TheVariants.{Start, End, Accept, Shut}
+use Rattle.gcd_event.specs.declared.event.Event.TheVariants.{Start, End}
 use Rattle.gcd_history.specs.Choice.{is_work}
 use Rattle.gcd_history.specs.Ends.{is_halted}
 use Rattle.gcd_history.specs.Facts.{is_of_callers}
-use Rattle.gcd_history.specs.History.{IsLawful, next_of_intake, why}
-use Rattle.gcd_history.specs.Intake.{next_of_intake as next_after}
+use Rattle.gcd_history.specs.History.{IsLawful, choice_of, next_of_intake, why}
 use Rattle.gcd_history.proofs.Lists.{reverse_push}
-use Rattle.gcd_history.proofs.MadeBlocks.AcceptsStay.{next_kept}
+use Rattle.gcd_history.proofs.Public.Laws.{choice_is_permitted}
 use Rattle.gcd_history.proofs.Permitted.Lawful.{lawful_front}
 use Rattle.gcd_jobs.proofs.ValuesMore.{end_fits}
 use Rattle.gcd_loop.specs.Recorded.{Grows}
@@ -22,7 +22,9 @@ use Rattle.gcd_loop.proofs.Steps.{grows_none}
 use Rattle.gcd_machine.specs.Calm.{IsCalm}
 use Rattle.gcd_machine.proofs.Views.Calls.{lawful_stands}
 use Rattle.gcd_machine.specs.Stands.{StandsFor}
+use Rattle.gcd_pool.proofs.Admitting.{works_uncalled}
 use Rattle.gcd_refinement.specs.MachineView.{MachineView}
+use Rattle.gcd_row.proofs.Accepted.{next_stays}
 use Rattle.gcd_workers.specs.AloneCalls.{CallsStay, Stays}
 use Rattle.gcd_workers.specs.JobsKept.{HasRunAtOnce, IsBetween}
 use Rattle.gcd_workers.specs.JobStates.{ComesToNoMore}
@@ -38,14 +40,11 @@ before plan h e m stands = lawful_front plan h (e ∷ []) (lawful_stands m plan 
 pub end_low : (plan : PlanView) (h : List Event) (w : ℕ) (b : Blk) → why plan h (End w b) ≡ None → b.0 < length plan.blocks
 end_low plan h w b may = end_fits plan h (End w b) may
 
-pub work_uncalled : (e : Event) → is_work e ≡ true → is_of_callers e ≡ false
-work_uncalled (Accept b s) work = cc
-work_uncalled Shut work = cc
-work_uncalled e work = refl
-
-pub next_stays : (plan : PlanView) (h : List Event) (e : Event) → is_of_callers e ≡ false → next_of_intake plan (h ++ e ∷ []) ≡ next_of_intake plan h
-unfolding next_of_intake
-next_stays plan h e other = ap (next_after plan) (reverse_push h e) ∙ next_kept plan e (reverse h) other
+-- what worker 0 chooses is no event of outside callers
+pub chosen_uncalled : (plan : PlanView) (h : List Event) (w from : ℕ) (e : Event) → choice_of plan h w from ≡ Some e → is_of_callers e ≡ false
+chosen_uncalled plan h w from e chosen =
+    let choice = choice_is_permitted plan h w from e chosen in
+    (or_parts (is_of_callers e) false (works_uncalled (e ∷ []) (and_from (is_work e) true choice.work refl))).0
 
 -- ## A block that starts and ends at once
 

@@ -38,20 +38,18 @@ calls_through h k l first later = record {
   accepted = λ b is. later.accepted b (first.accepted b is);
 }
 
-uncalled_of : (s : ℕ) (e : Event) → is_of_callers e ≡ false → accepted_of s e ≡ None
-uncalled_of s (Accept b t) uncalled = cc
-uncalled_of s e uncalled = refl
-
-uncalled_shuts : (e : Event) → is_of_callers e ≡ false → shuts e ≡ false
-uncalled_shuts Shut uncalled = cc
-uncalled_shuts e uncalled = refl
+-- it accepts nothing of any sender, and shuts nothing
+uncalled : (s : ℕ) (e : Event) → is_of_callers e ≡ false → (accepted_of s e ≡ None) × (shuts e ≡ false)
+uncalled s (Accept b t) not_theirs = cc
+uncalled s Shut not_theirs = cc
+uncalled s e not_theirs = (refl, refl)
 
 pub calls_kept : (h : List Event) (e : Event) → is_of_callers e ≡ false → CallsStay h (h ++ e ∷ [])
-calls_kept h e uncalled = record {
+calls_kept h e not_theirs = record {
   blocks = λ s.
       filter_map-append (accepted_of s) h (e ∷ [])
-      ∙ ap (λ o. blocks_of_sender h s ++ cons_option o []) (uncalled_of s e uncalled) ∙ append-nil (blocks_of_sender h s);
-  shut = list_any-append shuts h (e ∷ []) ∙ ap (λ (v : Bool). list_any shuts h || (v || false)) (uncalled_shuts e uncalled) ∙ or-false (list_any shuts h);
+      ∙ ap (λ o. blocks_of_sender h s ++ cons_option o []) (uncalled s e not_theirs).0 ∙ append-nil (blocks_of_sender h s);
+  shut = list_any-append shuts h (e ∷ []) ∙ ap (λ (v : Bool). list_any shuts h || (v || false)) (uncalled 0 e not_theirs).1 ∙ or-false (list_any shuts h);
   accepted = λ b is. any_left (accepts b) h (e ∷ []) is;
 }
 
@@ -62,12 +60,6 @@ zip_map P Q each [] [] z = tt
 zip_map P Q each [] (y ∷ ys) z = absurd z
 zip_map P Q each (x ∷ xs) [] z = absurd z
 zip_map P Q each (x ∷ xs) (y ∷ ys) z = (each x y z.0, zip_map P Q each xs ys z.1)
-
-zip_last : {A B : Type 0} (P : A → B → Type 0) (xs : List A) (ys : List B) (x : A) (y : B) → AllZip P xs ys → P x y → AllZip P (xs ++ x ∷ []) (ys ++ y ∷ [])
-zip_last P [] [] x y z last = (last, tt)
-zip_last P [] (w ∷ ys) x y z last = absurd z
-zip_last P (v ∷ xs) [] x y z last = absurd z
-zip_last P (v ∷ xs) (w ∷ ys) x y z last = (z.0, zip_last P xs ys x y z.1 last)
 
 module _ {J X : Type 0} (gives : J → ℕ → ℕ → Type 0) (sent : X → ℕ → Type 0) (f : FrontView) (plan : PlanView) where
   -- ## Before the first event
@@ -157,6 +149,16 @@ module _ {J X : Type 0} (gives : J → ℕ → ℕ → Type 0) (sent : X → ℕ
         let other : d.0 ≢ b = λ same. both_ways (d.0 == b) (not-true (d.0 == b) parts.0) (eq-eqb d.0 b same) in
         (λ value may. z.0 value (laid_other gives b d.0 value job states other may), zip_else xs ds parts.1 z.1)
 
+  -- ## An Accept
+
+  -- one block more, whose job may come to no other value than the job that was sent
+  accepted_last : (states : List (JobState J)) (jobs : List X) (blocks : List Blk) (job : X) (b : Blk) → AreAccepted gives sent states jobs blocks
+      → ComesOf gives sent states job b → AreAccepted gives sent states (jobs ++ job ∷ []) (blocks ++ b ∷ [])
+  accepted_last states [] [] job b all last = (last, tt)
+  accepted_last states [] (c ∷ blocks) job b all last = absurd all
+  accepted_last states (j ∷ jobs) [] job b all last = absurd all
+  accepted_last states (j ∷ jobs) (c ∷ blocks) job b all last = (all.0, accepted_last states jobs blocks job b all.1 last)
+
   -- a job of a sender was taken, and it is that of the block whose Accept was placed
   module _ (i j : IntakeView X) (h : List Event) (b : Blk) (s n : ℕ) (sent_job : X) (job : J) (states : List (JobState J))
       (took : j.taken ≡ i.taken ++ parcel s n sent_job ∷ []) (new : list_any (accepts b.0) h ≡ false)
@@ -175,7 +177,7 @@ module _ {J X : Type 0} (gives : J → ℕ → ℕ → Type 0) (sent : X → ℕ
     unfolding own_job
     one_taken t = elim (s == t) as (λ own. AreAccepted gives sent (slice_set states b.0 (Waits job)) (jobs_of t i.taken ++ (if own then sent_job ∷ [] else []))
         (blocks_of_sender h t ++ cons_option (if own then Some b else None) [])) [
-          | true ↦ zip_last (ComesOf gives sent (slice_set states b.0 (Waits job))) (jobs_of t i.taken) (blocks_of_sender h t) sent_job b (was_taken t)
+          | true ↦ accepted_last (slice_set states b.0 (Waits job)) (jobs_of t i.taken) (blocks_of_sender h t) sent_job b (was_taken t)
               (λ value may. that value (laid_here gives b.0 value job states may))
           | false ↦ subst (λ (l : List X). AreAccepted gives sent (slice_set states b.0 (Waits job)) l (blocks_of_sender h t ++ [])) (sym (append-nil (jobs_of t i.taken)))
               (subst (λ (l : List Blk). AreAccepted gives sent (slice_set states b.0 (Waits job)) (jobs_of t i.taken) l) (sym (append-nil (blocks_of_sender h t))) (was_taken t))

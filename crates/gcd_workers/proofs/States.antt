@@ -1,10 +1,10 @@
 -- The states of jobs, a step on.
-use Rattle.std.proofs.Common.{◌≡◌, ◌≢◌, ◌<◌, ◌∙◌, ◌&&◌, ℕ, Bool, true, false, not, List, [], ◌∷◌, ◌++◌, length, map, Option, Some, None, refl, ap, sym, subst, arith, ⊎_elim, eqb-true}
+use Rattle.std.proofs.Common.{◌≡◌, ◌≢◌, ◌<◌, ◌∙◌, ◌&&◌, ℕ, zero, suc, Bool, true, false, not, List, [], ◌∷◌, ◌++◌, length, map, Option, Some, None, refl, ap, sym, subst, arith, ⊎_elim, eqb-true}
 use Rattle.std.specs.Prelude.{slice_get, slice_set, reverse}
 use Rattle.std.specs.Option.{option_map}
 use Rattle.std.proofs.lemmas.Bool.{both_ways, cases_eq}
-use Rattle.std.proofs.lemmas.List.{length-map, length-set, get_or-set_other}
-use Rattle.std.proofs.lemmas.Option.{same_Some, slice_get-get_or, slice_get-map, slice_get_within}
+use Rattle.std.proofs.lemmas.List.{length-map, length-set}
+use Rattle.std.proofs.lemmas.Option.{same_Some, slice_get-map, slice_get_within}
 use Rattle.gcd_facts.proofs.Lists.{slice_get-set_same}
 use Rattle.gcd_plan.specs.Made.{is_of_intake}
 use Rattle.gcd_plan.specs.PlanView.{PlanView}
@@ -25,20 +25,13 @@ use Rattle.gcd_workers.specs.JobStates.{AreOwn, AreStates, HasRun, MayCome, Come
 use Rattle.gcd_workers.specs.declared.job_state.JobState.{JobState}
 use Rattle.gcd_workers.specs.declared.job_state.JobState.TheVariants.{Waits, Gave}
 
-pub set_other : {A : Type 0} (xs : List A) (i k : ℕ) (v x : A) → k ≢ i → slice_get xs k ≡ Some x → slice_get (slice_set xs i v) k ≡ Some x
-set_other xs i k v x differ at =
-    let within = slice_get_within xs k x at in
-    slice_get-get_or (slice_set xs i v) k v (omega (arith, length-set xs i v, within))
-    ∙ ap Some (get_or-set_other xs i k v v differ)
-    ∙ sym (slice_get-get_or xs k v within) ∙ at
-
--- what lies at another place lay there before
-pub was_other : {A : Type 0} (xs : List A) (i k : ℕ) (v x : A) → k ≢ i → slice_get (slice_set xs i v) k ≡ Some x → slice_get xs k ≡ Some x
-was_other xs i k v x differ at =
-    let within = slice_get_within (slice_set xs i v) k x at in
-    let low : k < length xs = omega (arith, length-set xs i v, within) in
-    let there = slice_get_some xs k low in
-    there.1 ∙ sym (set_other xs i k v there.0 differ there.1) ∙ at
+-- what lies at another place stays
+pub set_elsewhere : {A : Type 0} (xs : List A) (i k : ℕ) (v : A) → k ≢ i → slice_get (slice_set xs i v) k ≡ slice_get xs k
+set_elsewhere [] i k v differ = refl
+set_elsewhere (x ∷ xs) zero zero v differ = absurd (differ refl)
+set_elsewhere (x ∷ xs) zero (suc k) v differ = refl
+set_elsewhere (x ∷ xs) (suc i) zero v differ = refl
+set_elsewhere (x ∷ xs) (suc i) (suc k) v differ = set_elsewhere xs i k v (λ same. differ (ap suc same))
 
 -- what lies at the place is the new value
 pub set_same : {A : Type 0} (xs : List A) (i : ℕ) (v x : A) → slice_get (slice_set xs i v) i ≡ Some x → x ≡ v
@@ -127,14 +120,14 @@ module _ {J : Type 0} where
               (λ (same : c.0 ≡ b). absurd (both_ways (has_given plan k b) none (subst (λ (n : ℕ). has_given plan k n ≡ true) same own)))
               (λ (differ : c.0 ≢ b).
               let was = are.waits b within (sym (given_of_other plan h w c b differ) ∙ none) in
-              (was.0, set_other old c.0 b state (Waits was.0) (λ e. differ (sym e)) was.1))
+              (was.0, set_elsewhere old c.0 b state (λ e. differ (sym e)) ∙ was.1))
               (cases_eq c.0 b);
           gave = λ b within gave.
               ⊎_elim
               (λ (same : c.0 ≡ b). (ran.value, subst (λ (n : ℕ). slice_get (slice_set old c.0 state) n ≡ Some state) same here))
               (λ (differ : c.0 ≢ b).
               let was = are.gave b within (sym (given_of_other plan h w c b differ) ∙ gave) in
-              (was.0, set_other old c.0 b state (Gave was.0) (λ e. differ (sym e)) was.1))
+              (was.0, set_elsewhere old c.0 b state (λ e. differ (sym e)) ∙ was.1))
               (cases_eq c.0 b);
         })
 
@@ -148,7 +141,7 @@ module _ {J : Type 0} where
         let it : may.state ≡ state = set_same old b state may.state (ap (slice_get (slice_set old b state)) same ∙ at) in
         let gave : value ≡ ran.value = subst (λ (s : JobState J). may_come gives s value) it may.may in
         record { state = Waits ran.job; at = ap (slice_get old) (sym same) ∙ ran.was; may = subst (gives ran.job 0) (sym gave) ran.given })
-        (λ (differ : b ≢ d). record { state = may.state; at = was_other old b d state may.state (λ e. differ (sym e)) at; may = may.may })
+        (λ (differ : b ≢ d). record { state = may.state; at = sym (set_elsewhere old b d state (λ e. differ (sym e))) ∙ at; may = may.may })
         (cases_eq b d)
 
     pub own_kept : (plan : PlanView) (jobs : List J) (old new : List (JobState J)) → ComesToNoMore gives old new → AreOwn gives plan jobs old → AreOwn gives plan jobs new
@@ -171,14 +164,14 @@ module _ {J : Type 0} where
               ))
               (λ (differ : b ≢ d).
               let was = are.waits d within not_yet in
-              (was.0, set_other states b d (Waits job) (Waits was.0) (λ e. differ (sym e)) was.1))
+              (was.0, set_elsewhere states b d (Waits job) (λ e. differ (sym e)) ∙ was.1))
               (cases_eq b d);
           gave = λ d within gave.
               ⊎_elim
               (λ (same : b ≡ d). absurd (both_ways (has_given plan h b) none (ap (has_given plan h) same ∙ gave)))
               (λ (differ : b ≢ d).
               let was = are.gave d within gave in
-              (was.0, set_other states b d (Waits job) (Gave was.0) (λ e. differ (sym e)) was.1))
+              (was.0, set_elsewhere states b d (Waits job) (λ e. differ (sym e)) ∙ was.1))
               (cases_eq b d);
         }
 
@@ -186,7 +179,7 @@ module _ {J : Type 0} where
     pub laid_other : (b d value : ℕ) (job : J) (states : List (JobState J)) → d ≢ b → MayCome gives (slice_set states b (Waits job)) d value → MayCome gives states d value
     laid_other b d value job states differ may = record {
       state = may.state;
-      at = was_other states b d (Waits job) may.state differ may.at;
+      at = sym (set_elsewhere states b d (Waits job) differ) ∙ may.at;
       may = may.may;
     }
 

@@ -4,7 +4,7 @@ use Rattle.gcd_history.specs.History.{choice_of}
 use Rattle.gcd_history.proofs.Public.Laws.{choice_is_permitted}
 use Rattle.gcd_loop.proofs.Steps.{grows_one}
 use Rattle.gcd_workers.specs.ListRuns.{HasSteppedTwice}
-use Rattle.gcd_workers.proofs.AloneSteps.{on_ok, stays_one, stays_through, work_uncalled}
+use Rattle.gcd_workers.proofs.AloneSteps.{chosen_uncalled, on_ok, stays_one, stays_through}
 use Rattle.gcd_workers.proofs.jobs_kept.JobsKept.do_at_once.Goals as goal
 
 pub record-requires-clause-next : goal.record-requires-clause-next
@@ -26,7 +26,6 @@ returns-in-false-clause-grows g c =
 pub returns-in-false-clause-stays : goal.returns-in-false-clause-stays
 returns-in-false-clause-stays g c =
     let plan = c.args.given.now.plan.now in let old = c.args.self.now in let mid = c.record_run.new.self in let new = c.record.new.self in let e = c.args.e in
-    let choice = choice_is_permitted plan old.journal.items 0 0 e c.requires.chosen in
     on_ok c.record.result (λ is.
     stays_through g.J.Job.gives old.journal.items mid.journal.items new.journal.items old.states.items mid.states.items new.states.items c.in_ok-record_run.ensures.stays
-    (stays_one g.J.Job.gives mid.journal.items new.journal.items e mid.states.items new.states.items is (work_uncalled e choice.work) c.record.ensures.no_more)) c.record.ensures.journal
+    (stays_one g.J.Job.gives mid.journal.items new.journal.items e mid.states.items new.states.items is (chosen_uncalled plan old.journal.items 0 0 e c.requires.chosen) c.record.ensures.no_more)) c.record.ensures.journal

@@ -1,6 +1,6 @@
 use Rattle.gcd_history.proofs.Public.Laws.{choice_is_permitted}
 use Rattle.gcd_loop.proofs.Steps.{grows_one}
-use Rattle.gcd_workers.proofs.AloneSteps.{on_ok, stays_one, work_uncalled}
+use Rattle.gcd_workers.proofs.AloneSteps.{chosen_uncalled, on_ok, stays_one}
 use Rattle.gcd_workers.proofs.jobs_kept.JobsKept.do_chosen.Goals as goal
 
 pub record-requires-clause-next : goal.record-requires-clause-next
@@ -17,5 +17,4 @@ returns-clause-grows g c =
 pub returns-clause-stays : goal.returns-clause-stays
 returns-clause-stays g c =
     let old = c.args.self.now in let new = c.record.new.self in
-    let choice = choice_is_permitted c.args.given.now.plan.now old.journal.items 0 0 c.args.e c.requires.chosen in
-    on_ok c.record.result (λ is. stays_one g.J.Job.gives old.journal.items new.journal.items c.args.e old.states.items new.states.items is (work_uncalled c.args.e choice.work) c.record.ensures.no_more) c.record.ensures.journal
+    on_ok c.record.result (λ is. stays_one g.J.Job.gives old.journal.items new.journal.items c.args.e old.states.items new.states.items is (chosen_uncalled c.args.given.now.plan.now old.journal.items 0 0 c.args.e c.requires.chosen) c.record.ensures.no_more) c.record.ensures.journal
