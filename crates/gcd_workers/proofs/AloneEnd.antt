@@ -25,7 +25,6 @@ use Rattle.gcd_machine.specs.declared.put.Put.TheVariants.{Placed, Barred, Held,
 use Rattle.gcd_machine.proofs.Views.Calls.{lawful_stands, valid_stands}
 use Rattle.gcd_outer.specs.Outside.{ClockState, Seen}
 use Rattle.gcd_outer.specs.Tells.{PollerState}
-use Rattle.gcd_turn.specs.Outsides.{Faced}
 use Rattle.gcd_loop.proofs.Follows.{workers_of_alone}
 use Rattle.gcd_loop.proofs.Steps.{runs_plan}
 use Rattle.gcd_loop.specs.Going.{IsRunOn}
@@ -35,7 +34,6 @@ use Rattle.gcd_row.proofs.Accepted.{next_unaccepted}
 use Rattle.gcd_pool.proofs.Accepting.{unshut}
 use Rattle.gcd_workers.specs.AloneCalls.{ComesOf, HaveCalls, Stays}
 use Rattle.gcd_workers.specs.CallersRuns.{AreGivenBeside, OfSender, RanFor, RunsFront}
-use Rattle.gcd_workers.specs.JobsAlone.{HasGoneAlone}
 use Rattle.gcd_workers.specs.JobsKept.{IsAcceptedAlone, IsAlone, IsJobsKept, WasPutAlone, jobs_sight}
 use Rattle.gcd_workers.specs.JobStates.{ComesToNoMore, said}
 use Rattle.gcd_workers.specs.declared.dispatch.Dispatch.{Dispatch}
@@ -228,8 +226,3 @@ module _ {J X : Type 0} (gives : J → ℕ → ℕ → Type 0) (sent : X → ℕ
       subst (λ x. RunsFront gives sent d f x (record { tells = pt; before = poller p; after = poller r }) (record { tells = ct; before = clock a; after = clock t }) ran) (sym same_intake)
       (subst (λ x. RunsFront gives sent d f i (record { tells = pt; before = poller p; after = poller x }) (record { tells = ct; before = clock a; after = clock t }) ran) (sym same_poller)
       (subst (λ x. RunsFront gives sent d f i (record { tells = pt; before = poller p; after = poller q }) (record { tells = ct; before = clock a; after = clock x }) ran) (sym same_clock) runs))
-
-  -- the intake is at the end as the last call left it
-  pub gone_as : (h : List Event) (last : JobsKept J) (i : IntakeView X) (o : Faced) {j : IntakeView X} → j ≡ i → HasGoneAlone gives sent given h last f i o
-      → HasGoneAlone gives sent given h last f j o
-  gone_as h last i o {j} same gone = subst (λ x. HasGoneAlone gives sent given h last f x o) (sym same) gone
