@@ -1,67 +1,56 @@
-//! A caller of the runtime without the script language: a plan that is made of its parts (`Plan::of_parts` of `gcd_plan`), jobs of a
-//! type of its own (`Job` of `gcd_jobs`), and one call that runs them (`run_jobs` of `gcd_workers`).
+//! A program with a plan and jobs of its own (`PlanBuilder` of `gcd_builder`, `jobs_of` and `run_jobs` of `gcd_workers`). Three blocks
+//! read a shared number on a concurrent queue, and a fourth writes it as a barrier (dispatch_barrier_async(3)). So the block before the
+//! barrier reads the old number and the blocks behind it read the new one, in each run.
 //!
-//! Two weather stations measure in degrees Celsius, and up to four workers convert that to degrees Fahrenheit. Each station has a
-//! serial queue, so its readings are converted in order; the stations go on side by side. What is written is the same in each run.
-//!
-//! Proved is that the jobs are the readings, block by block, and that a job gives its reading in degrees Fahrenheit. So these are the
-//! values of the blocks that have ended, by what `run_jobs` promises (`AreGiven`). Which text is written of them is tested.
-//! Where an item names no manual page, what it says is this project's own rule.
+//! Proved: the job of the writer gives the number that it writes, and the plan is valid. Tested: which numbers the readers get, since no
+//! contract says what a plain atomic holds, and what is written.
 #![tactic(auto)]
 
-mod plan;
-mod reading;
+ghost use Rattle.std.specs.Prelude.{◌≡◌, IfSome};
 
-use crate::plan::{READINGS, STATIONS, plan_of_stations};
-use crate::reading::jobs_of_readings;
-use gcd_plan::MAX_EVENTS;
-use gcd_workers::{JobsRefused, run_jobs};
-use std::alloc::{AllocError, Global};
-use std::fmt::Write;
-use std::process::ExitCode;
-use std::sync::Wait;
-use std::thread::Threads;
+use gcd_builder::PlanBuilder;
+use gcd_jobs::Job;
+use gcd_plan::{Act, Blk, Kind, MAX_EVENTS, Run};
+use gcd_workers::{jobs_of, run_jobs};
+use std::sync::atomic::{AtomicU64, Ordering};
 
-// How many workers there are at most.
-const WORKERS: u8 = 4;
+const MAIN: Run = Run::Block(Blk(0));
 
-// A line for each station: its name, and its readings in degrees Fahrenheit.
-fn lines_of(alloc: Global, values: &[Option<u64>]) -> Result<String, AllocError> {
-    let mut lines = String::new(alloc);
-    for (station, name) in &STATIONS {
-        write!(lines, "{name}:")?;
-        // Behind the value of `main` lie those of the readings.
-        for (reading, value) in READINGS.iter().zip(values.iter().skip(1)) {
-            if let Some(value) = value
-                && reading.station == *station
-            {
-                write!(lines, " {value}")?;
-            }
-        }
-        lines.push_str("\n")?;
-    }
-    Ok(lines)
-}
+// A visit of a cache: it writes this number, or reads the one that the cache holds.
+#[derive(Drop)]
+struct Visit<'a>(&'a AtomicU64, Option<u64>);
 
-// All that is written. An `Err` comes where memory runs out.
-fn text<R: Threads + Wait + Sync>(rt: &R, alloc: Global) -> Result<String, AllocError> {
-    let Some(plan) = plan_of_stations(alloc)? else {
-        return String::from_str(alloc, "the parts are no plan\n");
-    };
-    let jobs = jobs_of_readings(alloc)?;
-    match run_jobs(rt, alloc, &plan, WORKERS, MAX_EVENTS, jobs) {
-        Ok(run) => lines_of(alloc, &run.values),
-        Err(JobsRefused::OutOfMemory) => Err(AllocError),
-        Err(refusal) => format!(in alloc; "{refusal}\n"),
+impl Job for Visit<'_> {
+    ghost gives = { λ visit input value. IfSome visit.1 (λ number. value ≡ number) };
+
+    fn run(self, _input: u64) -> u64 {
+        let Some(number) = self.1 else {
+            return self.0.load(Ordering::SeqCst);
+        };
+        self.0.store(number, Ordering::SeqCst);
+        number
     }
 }
 
-fn main(rt: HostRuntime) -> ExitCode {
-    let Ok(text) = text(&rt, rt.alloc()) else {
-        return ExitCode::from(7);
-    };
-    if print!(rt; "{text}").is_err() {
-        return ExitCode::from(6);
+fn main(rt: HostRuntime) -> anyhow::Result<()> {
+    let mut plan = PlanBuilder::new(rt.alloc())?;
+    let queue = plan.queue("cache", Kind::Concurrent)?;
+    let (early, fill) = (plan.block("early")?, plan.block("fill")?);
+    let (late, last) = (plan.block("late")?, plan.block("last")?);
+    plan.act(MAIN, Act::Async(queue, early))?;
+    plan.act(MAIN, Act::Barrier(queue, fill))?;
+    plan.act(MAIN, Act::Async(queue, late))?;
+    plan.act(MAIN, Act::Async(queue, last))?;
+    let plan = plan.finish()?;
+
+    let cache = AtomicU64::new(20);
+    let jobs = jobs_of(rt.alloc(), &plan, |block| {
+        Visit(&cache, (block == fill).then_some(25))
+    })?;
+    let run = run_jobs(&rt, rt.alloc(), &plan, 4, MAX_EVENTS, jobs)?;
+    for name in ["early", "fill", "late", "last"] {
+        let value = plan.block_named(name).and_then(|block| run.value(block));
+        println!(rt; "{name}: {value:?}")?;
     }
-    ExitCode::SUCCESS
+    Ok(())
 }
