@@ -11,10 +11,11 @@ from refused import FOLDER, each_refused, going_on, is_same
 
 CASES = TOP / "examples"
 
-# Tests over an outside in memory, of these crates. The last but one is a run of ten thousand events by four workers, whose journal grows as
-# it goes, and the last a run beside callers in other threads.
+# Tests over an outside in memory, of these crates. Those of `ring` are runs of ten thousand events by four workers and by one, whose journal
+# grows as they go, and the last is a run beside callers in other threads.
 TESTS = [("gcd_run_tests", f"tests::memory::a_{name}_answers_whole_or_nothing") for name in ("run", "check", "large_script", "team")]
 TESTS += [("gcd_workers_tests", "tests::ring::a_long_run_by_a_team_is_whole_or_refused")]
+TESTS += [("gcd_workers_tests", "tests::ring::a_long_run_of_jobs_by_one_worker_is_whole_or_refused")]
 TESTS += [("gcd_workers_tests", "tests::callers::called::a_run_beside_callers_is_whole_or_refused")]
 
 # A name, the words, and whether the run has a feed or an address: the system's own tables for these are made in the run, and what
