@@ -4,8 +4,9 @@ use gcd_front::Front;
 use std::sync::Wait;
 use std::thread::yield_now;
 
-// How often worker 0 yields its processor before it sleeps, where jobs may come from outside: about as long as a sleeper takes to wake.
-const YIELDS: u32 = 256;
+// How often worker 0 yields its processor before it sleeps, where jobs may come from outside. A yield takes a tenth of a microsecond or
+// more, and a sleeper some twenty to wake.
+const YIELDS: u32 = 1_024;
 
 // As every worker does. But where callers from outside may send jobs it yields for longer, and what they send ends its sleep.
 #[derive(Drop)]

@@ -4,8 +4,8 @@ use std::sync::Wait;
 use std::thread::yield_now;
 use std::time::Duration;
 
-// How often it yields its processor before it sleeps: about as long as a sleeper takes to wake.
-const YIELDS: u32 = 256;
+// How often it yields its processor before it sleeps. A yield takes a tenth of a microsecond or more, and a sleeper some twenty to wake.
+const YIELDS: u32 = 1_024;
 
 // The longest sleep, in microseconds: so long a feed or a due time may wait.
 const LONGEST_SLEEP: u64 = 250;
