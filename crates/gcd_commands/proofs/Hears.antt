@@ -122,10 +122,7 @@ module _ (d : Dispatch FrontJob) (blocks senders : ℕ) (poller : Seen PollerSta
   taken : (s : ℕ) → s < senders → IsTakenOf left.front i s (told_by s (blocks / senders))
   taken s low =
       let mouth = slice_get_some left.mouths s (omega (arith, low, left.count)) in
-      let sent = left.called s mouth.0 mouth.1 in
-      let t = left.taken s mouth.0 mouth.1 (omega (arith, low, sent.0)) in
-      subst (λ (n : ℕ). IsTakenOf left.front i n (told_by s (blocks / senders))) sent.0
-      (subst (λ (l : List Told). IsTakenOf left.front i mouth.0.sender l) sent.1 t)
+      subst (λ (l : List Told). IsTakenOf left.front i s l) (left.called s mouth.0 mouth.1) (left.taken s mouth.0 mouth.1)
 
   abbrev h : List Event
   h = run.journal.items

@@ -36,4 +36,4 @@ module _ (f : FrontView) (mouths : List (MouthView Told)) (new : mouths ≡ new_
       let now : m ≡ mouth_of f.id s (told_by s share) =
       sym (get_or_from_slice_get after s m m at) ∙ each s m low
       ∙ ap (λ (o : MouthView Told). mouth_of o.front o.sender (told_by o.sender share)) (new_at s m low) in
-      (ap (λ (o : MouthView Told). o.sender) now, ap (λ (o : MouthView Told). o.sent) now)
+      ap (λ (o : MouthView Told). o.sent) now

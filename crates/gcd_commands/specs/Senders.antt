@@ -39,9 +39,9 @@ Sends share old new = new ≡ mouth_of old.front old.sender (told_by old.sender 
 abbrev pub EachSends : (share : ℕ) → (old new : List (MouthView Told)) → Type 0
 EachSends share old new = (k : ℕ) (d : MouthView Told) → k < length old → Sends share (slice_index_or old k d) (slice_index_or new k d)
 
--- the mouth at place s is that of sender s, through which so many jobs were sent
+-- through the mouth at place s so many jobs were sent, those of sender s
 abbrev pub HaveSent : (share : ℕ) → List (MouthView Told) → Type 0
-HaveSent share mouths = (s : ℕ) (m : MouthView Told) → slice_get mouths s ≡ Some m → (m.sender ≡ s) × (m.sent ≡ told_by s share)
+HaveSent share mouths = (s : ℕ) (m : MouthView Told) → slice_get mouths s ≡ Some m → m.sent ≡ told_by s share
 
 -- what the run of what was given has left beside so many senders, each of which handed in its share of the jobs for so many blocks
 abbrev pub HasRun : (d : Dispatch FrontJob) (senders share : ℕ) → Seen PollerState → Seen ClockState → Ran → Type 0

@@ -1,5 +1,5 @@
 -- What a run leaves whose work comes from outside.
-use Rattle.std.specs.Prelude.{◌≡◌, ◌<◌, ◌⊎◌, ◌++◌, ◌∷◌, [], ℕ, Contains, List, All, length, Some, replicate, slice_get, ◌≤◌}
+use Rattle.std.specs.Prelude.{◌≡◌, ◌<◌, ◌⊎◌, ◌++◌, ◌∷◌, [], ℕ, Contains, List, All, length, Some, replicate, slice_get, slice_index_or, ◌≤◌}
 use Rattle.gcd_plan.specs.Limits.{max_events}
 use Rattle.gcd_plan.specs.PlanView.{PlanView}
 use Rattle.gcd_event.specs.declared.event.Event.TheVariants.{Halt}
@@ -27,6 +27,14 @@ abbrev pub nothings : {X : Type 0} → ℕ → List (Called X)
 nothings n = replicate n Nothing
 
 module _ {X : Type 0} where
+  -- the mouth at each place is of the same sender as before
+  abbrev pub SendersStay : (old new : List (MouthView X)) → Type 0
+  SendersStay old new = (k : ℕ) (d : MouthView X) → k < length old → (slice_index_or new k d).sender ≡ (slice_index_or old k d).sender
+
+  -- the mouth at place k is that of sender k
+  abbrev pub AreBySender : List (MouthView X) → Type 0
+  AreBySender mouths = (k : ℕ) (m : MouthView X) → slice_get mouths k ≡ Some m → m.sender ≡ k
+
   -- what is left of these mouths, of the last one first
   abbrev pub lefts_of : List (MouthView X) → List (LeftView X)
   lefts_of [] = []
@@ -45,17 +53,18 @@ module _ {X : Type 0} where
     pub none : lefts ≡ []
     pub enough : length mouths ≤ room
 
-  -- there are mouths of the front, one for each sender, that the callers leave so, and this is left of them
+  -- there are mouths of the front, one for each sender, by number, that the callers leave so, and this is left of them
   pub record HaveCalled (leave : List (MouthView X) → Type 0) (f : FrontView) (lefts : List (LeftView X)) : Type 0 where
     pub mouths : List (MouthView X)
     pub count : length mouths ≡ f.senders
+    pub by_sender : AreBySender mouths
     pub called : leave mouths
     pub left : lefts ≡ lefts_of mouths
     pub of_front : All (IsLeftOf f) lefts
 
 -- The run of what was given beside callers: there are a front with so many senders and its intake, beside which it promises what such a run
--- does (`RunsFront`), and as many mouths, which the callers left as they say. Of each of these, one of a sender of the front, what was taken
--- of the sender is how the jobs begin that were sent through it (`IsTakenOf`).
+-- does (`RunsFront`), and a mouth of each sender, by number, which the callers left as they say. What was taken of a sender is how the jobs
+-- begin that were sent through its mouth (`IsTakenOf`).
 pub record RunsBeside {J X : Type 0} (gives : J → ℕ → ℕ → Type 0) (sent : X → ℕ → Type 0) (leave : List (MouthView X) → Type 0) (d : Dispatch J)
     (senders : ℕ) (outside : Met) (ran : Ran) : Type 0 where
   pub front : FrontView
@@ -63,9 +72,10 @@ pub record RunsBeside {J X : Type 0} (gives : J → ℕ → ℕ → Type 0) (sen
   pub mouths : List (MouthView X)
   pub of_front : front.senders ≡ senders
   pub count : length mouths ≡ senders
+  pub by_sender : AreBySender mouths
   pub runs : RunsFront gives sent d front intake outside.poller outside.clock ran
   pub called : leave mouths
-  pub taken : (k : ℕ) (m : MouthView X) → slice_get mouths k ≡ Some m → m.sender < senders → IsTakenOf front intake m.sender m.sent
+  pub taken : (k : ℕ) (m : MouthView X) → slice_get mouths k ≡ Some m → IsTakenOf front intake k m.sent
 
 -- The run of a plan beside callers, by so many workers, with the outside in memory: the plan's own blocks do nothing, and there are a poller
 -- and a clock, with which it promises what a run beside callers does (`RunsBeside`). Nothing halts it from outside.

@@ -3,7 +3,7 @@ ghost use Rattle.std.specs.Prelude.{◌≡◌, ◌<◌, ◌≤◌, ◌+◌, [], 
 ghost use Rattle.std.specs.Thread.{IsSync};
 ghost use Rattle.gcd_front.specs.Fronts.{IsLeftOf, IsMouthOf, new_mouths};
 ghost use Rattle.gcd_front.specs.Views.{MouthView};
-ghost use Rattle.gcd_workers.specs.CalledRuns.{AreNew, HaveCalled, ShutsLast, lefts_of};
+ghost use Rattle.gcd_workers.specs.CalledRuns.{AreNew, HaveCalled, SendersStay, ShutsLast, lefts_of};
 
 use gcd_front::{Front, Intake, Left, Mouth, Sent};
 use std::sync::Wait;
@@ -16,13 +16,14 @@ pub trait Callers<X: Sent + Drop> {
 
     /// Sends jobs through the mouths, one for each sender, by number, from this thread and from threads that it makes. Returns when there
     /// is nothing more to send, and the mouths are shut then. The mouths are borrowed, so a caller cannot keep one open. It promises that
-    /// they are still mouths of this front, and what it says of itself (`called`). If it needs more of a runtime than threads, for example
-    /// to read its input, it keeps a runtime of its own.
+    /// they are still mouths of this front, that each is still of its sender (it swaps no two of them), and what it says of itself
+    /// (`called`). If it needs more of a runtime than threads, for example to read its input, it keeps a runtime of its own.
     fn call<R: Threads + Wait + Sync>(&mut self, rt: &R, front: &Front<X>, mouths: &mut [Mouth<X>])
         requires sync { IsSync R.row }
         requires mouths { All (IsMouthOf front.now) mouths.old }
         requires new { mouths.old ≡ new_mouths front.now }
         ensures mouths { All (IsMouthOf front.now) mouths.new }
+        ensures senders { SendersStay mouths.old mouths.new }
         ensures called { Self.called self.old self.new mouths.new };
 }
 

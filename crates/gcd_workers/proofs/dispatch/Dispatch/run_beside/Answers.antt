@@ -1,6 +1,7 @@
 use Rattle.std.proofs.Common.{◌≡◌, ◌∙◌, ℕ, [], List, length, ap, arith, subst}
 use Rattle.std.proofs.lemmas.List.FromFn.{length-map-range_with_len}
-use Rattle.gcd_front.specs.Fronts.{AreTaken}
+use Rattle.std.proofs.lemmas.Option.{slice_get_within}
+use Rattle.gcd_front.specs.Fronts.{AreTaken, IsTakenOf}
 use Rattle.gcd_front.specs.Views.{LeftView, MouthView, mouth_of}
 use Rattle.gcd_workers.specs.CalledRuns.{lefts_of}
 use Rattle.gcd_workers.proofs.Lefts.{taken_of_each}
@@ -35,6 +36,11 @@ returns-clause-ran g c =
       of_front = senders;
       count = have.count ∙ senders;
       runs = c.in_ok-ran.ensures.ran;
+      by_sender = have.by_sender;
       called = have.called;
-      taken = λ k m at few. taken_of_each f i have.mouths all k m at (omega (arith, few, senders));
+      taken = λ k m at.
+          let own = have.by_sender k m at in
+          let low = slice_get_within have.mouths k m at in
+          let count = have.count in
+          subst (λ (s : ℕ). IsTakenOf f i s m.sent) own (taken_of_each f i have.mouths all k m at (omega (arith, own, low, count)));
     }
