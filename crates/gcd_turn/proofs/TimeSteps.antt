@@ -9,7 +9,7 @@ use Rattle.gcd_event.specs.declared.event.Event.{Event}
 use Rattle.gcd_event.specs.declared.event.Event.TheVariants.{Tick}
 use Rattle.gcd_history.specs.History.{next_due_of}
 use Rattle.gcd_outer.specs.Outside.{ClockState, Seen}
-use Rattle.gcd_turn.specs.Asked.{WaitedFor}
+use Rattle.gcd_turn.specs.Asked.{IsDueWait, WaitedFor}
 use Rattle.gcd_turn.specs.Promises.{IsDueMoment, IsTimely, later_by}
 use Rattle.gcd_turn.specs.Timing.{TimeKept}
 use Rattle.gcd_turn.proofs.FeedSteps.{more_at}
@@ -75,17 +75,17 @@ time_waited tells plan stood placed before now next start on for kept = record {
       λ e. ⊎_elim (λ (none : now.waited ≡ before.waited). inl (e ∙ none))
       (λ (is : IsDueMoment plan h start now.waited). inr (subst (λ (m : ℕ). IsDueMoment plan h start m) (sym e) is)) (kept.waited told) in
       ⊎_elim same
-      (λ (w : (due : ℕ) × (next_due_of plan h ≡ Some due) × (next.waited ≡ max now.waited (later_by start due))).
-      ⊎_elim (λ (old : max now.waited (later_by start w.0) ≡ now.waited). same (w.2 ∙ old))
-      (λ (own : max now.waited (later_by start w.0) ≡ later_by start w.0).
+      (λ (w : IsDueWait plan h start now next).
+      ⊎_elim (λ (old : max now.waited (later_by start w.due) ≡ now.waited). same (w.waited ∙ old))
+      (λ (own : max now.waited (later_by start w.due) ≡ later_by start w.due).
       inr (record {
         position = length h;
-        due = w.0;
+        due = w.due;
         within = omega arith;
-        is_due = subst (λ (k : List Event). next_due_of plan k ≡ Some w.0) (sym (take_all (length h) h (omega arith))) w.1;
-        moment_is = w.2 ∙ own;
+        is_due = subst (λ (k : List Event). next_due_of plan k ≡ Some w.due) (sym (take_all (length h) h (omega arith))) w.is_due;
+        moment_is = w.waited ∙ own;
       }))
-      (max_is now.waited (later_by start w.0)))
+      (max_is now.waited (later_by start w.due)))
       (for told);
 }
 

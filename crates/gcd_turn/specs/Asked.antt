@@ -1,16 +1,17 @@
 -- What worker 0 is asked to do next.
-use Rattle.std.specs.Prelude.{◌≡◌, ◌≤◌, ◌<◌, ◌+◌, ◌⊎◌, ℕ, Bool, true, false, List, [], ◌++◌, Option, Some, None, IsSome, length, max, min}
+use Rattle.std.specs.Prelude.{◌≡◌, ◌≤◌, ◌<◌, ◌+◌, ◌-◌, ◌⊎◌, ℕ, Bool, true, false, List, [], ◌++◌, Option, Some, None, IsSome, length, max, min}
 use Rattle.gcd_plan.specs.PlanView.{PlanView}
 use Rattle.gcd_event.specs.declared.event.Event.{Event}
 use Rattle.gcd_event.specs.declared.event.Event.TheVariants.{Start, Act as Acted, Wake, End, Deliver, DeliverEnd, Tick, Ready, FeedEnd, Misuse, Halt, Expire, Accept, Shut}
 use Rattle.gcd_history.specs.Ends.{HasEnded, is_halted}
-use Rattle.gcd_history.specs.History.{choice_of, expiry_of, is_intake_open, is_live_feed, next_due_of}
+use Rattle.gcd_history.specs.History.{choice_of, expiry_of, is_intake_open, is_live_feed, next_due_of, running_of}
 use Rattle.gcd_machine.specs.Stands.{StandsFor}
 use Rattle.gcd_refinement.specs.MachineView.{MachineView}
-use Rattle.gcd_outer.specs.Outside.{ClockState, Rises}
+use Rattle.gcd_outer.specs.Outside.{ClockState, Rises, Seen}
 use Rattle.gcd_outer.specs.Tells.{PollerState}
 use Rattle.gcd_outer.specs.declared.tell.Tell.{Tell}
 use Rattle.gcd_turn.specs.Hearing.{Heard}
+use Rattle.gcd_turn.specs.Outsides.{Faced}
 use Rattle.gcd_turn.specs.Promises.{later_by}
 use Rattle.gcd_turn.specs.Turns.{HasRoom, OutlookView, first_event}
 use Rattle.gcd_turn.specs.declared.ask.Ask.{Ask}
@@ -46,6 +47,22 @@ pub record IsDueTick (plan : PlanView) (h : List Event) (start present t : ℕ) 
 abbrev pub IsLeft : PlanView → List Event → Option ℕ → Type 0
 IsLeft plan h None = next_due_of plan h ≡ None
 IsLeft plan h (Some ms) = IsSome (next_due_of plan h) × (0 < ms)
+
+-- The next due time is so many milliseconds ahead: what has passed since the start, by an answer of the clock in the call, and what is
+-- left come to it. A clock that tells answers its present before the call.
+pub record IsAheadBy (plan : PlanView) (h : List Event) (start : ℕ) (clock : Seen ClockState) (left : ℕ) : Type 0 where
+  pub passed : ℕ
+  pub due : ℕ
+  pub is_due : next_due_of plan h ≡ Some due
+  pub reached : clock.before.present ≤ start + passed
+  pub not_ahead : passed ≤ clock.after.present - start
+  pub told : clock.tells ≡ true → passed ≡ clock.before.present - start
+  pub left_is : passed + left ≡ due
+
+-- so long is the next due time ahead, if there is one
+abbrev pub IsAhead : PlanView → List Event → (start : ℕ) → Seen ClockState → Option ℕ → Type 0
+IsAhead plan h start clock None = next_due_of plan h ≡ None
+IsAhead plan h start clock (Some ms) = IsAheadBy plan h start clock ms
 
 -- the poller failed in the call, or its count of faults is as it was
 abbrev pub HasFailed : PollerState → PollerState → Type 0
@@ -89,41 +106,50 @@ pub record MayTakeIn (plan : PlanView) (h : List Event) (news : List Tell) (poll
 -- what is asked at a history, which may have `most` events: to leave where it has ended, and only there; else to put a Halt where
 -- the poller failed, or the first of the news; to see to the intake, where it is open; and only where it is not, to put a Tick or an
 -- Expire, or to work, on what worker 0 chooses
-abbrev pub IsAsked : (most : ℕ) → PlanView → List Event → OutlookView → (present : ℕ) → (old new : PollerState) → Ask → Type 0
-IsAsked most plan h o present old new Leave = HasEnded most plan h × HasNotFailed old new
-IsAsked most plan h o present old new (Told e) = HasRoom most plan h × (first_event o.news ≡ Some e) × HasNotFailed old new
-IsAsked most plan h o present old new (Open chosen) = HasRoom most plan h × MayTakeIn plan h o.news new chosen × HasNotFailed old new
-IsAsked most plan h o present old new (Put e) =
-    HasRoom most plan h × IsPut plan h o.start present old new e × (HasFailed old new ⊎ (is_intake_open plan h ≡ false))
-IsAsked most plan h o present old new (Work chosen left) =
+abbrev pub IsAsked : (most : ℕ) → PlanView → List Event → OutlookView → Seen ClockState → (old new : PollerState) → Ask → Type 0
+IsAsked most plan h o clock old new Leave = HasEnded most plan h × HasNotFailed old new
+IsAsked most plan h o clock old new (Told e) = HasRoom most plan h × (first_event o.news ≡ Some e) × HasNotFailed old new
+IsAsked most plan h o clock old new (Open chosen) = HasRoom most plan h × MayTakeIn plan h o.news new chosen × HasNotFailed old new
+IsAsked most plan h o clock old new (Put e) =
+    HasRoom most plan h × IsPut plan h o.start clock.after.present old new e × (HasFailed old new ⊎ (is_intake_open plan h ≡ false))
+IsAsked most plan h o clock old new (Work chosen left) =
     HasRoom most plan h × MayIdle plan h o.news new left × HasNotFailed old new × (choice_of plan h 0 0 ≡ chosen) × (is_intake_open plan h ≡ false)
+    × IsAhead plan h o.start clock left
 
 -- what is asked in the later steps, where there is no news: to put a Tick or an Expire, or to work, on what worker 0 chooses
-abbrev pub IsAskedOn : (most : ℕ) → PlanView → List Event → OutlookView → (present : ℕ) → (old new : PollerState) → Ask → Type 0
-IsAskedOn most plan h o present old new Leave = ⊥
-IsAskedOn most plan h o present old new (Told e) = ⊥
-IsAskedOn most plan h o present old new (Open chosen) = ⊥
-IsAskedOn most plan h o present old new (Put e) = HasRoom most plan h × IsPut plan h o.start present old new e
-IsAskedOn most plan h o present old new (Work chosen left) =
-    HasRoom most plan h × MayIdle plan h o.news new left × HasNotFailed old new × (choice_of plan h 0 0 ≡ chosen)
+abbrev pub IsAskedOn : (most : ℕ) → PlanView → List Event → OutlookView → Seen ClockState → (old new : PollerState) → Ask → Type 0
+IsAskedOn most plan h o clock old new Leave = ⊥
+IsAskedOn most plan h o clock old new (Told e) = ⊥
+IsAskedOn most plan h o clock old new (Open chosen) = ⊥
+IsAskedOn most plan h o clock old new (Put e) = HasRoom most plan h × IsPut plan h o.start clock.after.present old new e
+IsAskedOn most plan h o clock old new (Work chosen left) =
+    HasRoom most plan h × MayIdle plan h o.news new left × HasNotFailed old new × (choice_of plan h 0 0 ≡ chosen) × IsAhead plan h o.start clock left
 
--- the clock was waited on for the next due time at the history, or not at all
+-- the clock was waited on for the next due time, at a history at which no run is open and unparked and no intake is open
+pub record IsDueWait (plan : PlanView) (h : List Event) (start : ℕ) (old new : ClockState) : Type 0 where
+  pub due : ℕ
+  pub is_due : next_due_of plan h ≡ Some due
+  pub resting : running_of plan h ≡ 0
+  pub shut : is_intake_open plan h ≡ false
+  pub waited : new.waited ≡ max old.waited (later_by start due)
+
+-- the clock was waited on so, or not at all
 abbrev pub WaitedFor : PlanView → List Event → (start : ℕ) → ClockState → ClockState → Type 0
-WaitedFor plan h start old new =
-    (new.waited ≡ old.waited) ⊎ ((due : ℕ) × (next_due_of plan h ≡ Some due) × (new.waited ≡ max old.waited (later_by start due)))
+WaitedFor plan h start old new = (new.waited ≡ old.waited) ⊎ IsDueWait plan h start old new
 
 -- so it was at a history that the machine stands for
 abbrev pub WaitsFor : MachineView → PlanView → (tells : Bool) → (start : ℕ) → ClockState → ClockState → Type 0
 WaitsFor m plan tells start old new = (h : List Event) → StandsFor m plan h → tells ≡ true → WaitedFor plan h start old new
 
 -- this is asked at a history that the machine stands for, of at most `most` events
-abbrev pub AsksFor : MachineView → PlanView → (most : ℕ) → OutlookView → (present : ℕ) → (old new : PollerState) → Ask → Type 0
-AsksFor m plan most o present old new ask = (h : List Event) → StandsFor m plan h → length h ≤ most → IsAsked most plan h o present old new ask
+abbrev pub AsksFor : MachineView → PlanView → (most : ℕ) → Faced → Ask → Type 0
+AsksFor m plan most f ask = (h : List Event) → StandsFor m plan h → length h ≤ most
+    → IsAsked most plan h f.before f.clock f.poller.before f.poller.after ask
 
 -- this is asked in the later steps at a history that the machine stands for, if each live feed is watched and no call has failed
-abbrev pub AsksOnFor : MachineView → PlanView → OutlookView → (present : ℕ) → Ask → Type 0
-AsksOnFor m plan o present ask = (most : ℕ) (h : List Event) (old new : PollerState) → StandsFor m plan h → HasRoom most plan h
-    → AllWatched plan h new → HasNotFailed old new → IsAskedOn most plan h o present old new ask
+abbrev pub AsksOnFor : MachineView → PlanView → OutlookView → Seen ClockState → Ask → Type 0
+AsksOnFor m plan o clock ask = (most : ℕ) (h : List Event) (old new : PollerState) → StandsFor m plan h → HasRoom most plan h
+    → AllWatched plan h new → HasNotFailed old new → IsAskedOn most plan h o clock old new ask
 
 -- if the calls up to now gave what stands in a history that the machine stands for, so have those up to the new state
 abbrev pub HearsOn : MachineView → PlanView → (tells : Bool) → (old new : PollerState) → (o u : OutlookView) → Type 0

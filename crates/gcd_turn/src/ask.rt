@@ -22,7 +22,8 @@ pub enum Ask {
     Work {
         /// What worker 0 chooses, from object 0 on; None exactly where no event of worker 0 is permitted.
         chosen: Option<Event>,
-        /// How many milliseconds the next due time is ahead, at least 1; None where there is none.
+        /// How many milliseconds the next due time is ahead, at least 1; None where there is none. It is that time less what had passed
+        /// since the start when the clock was asked.
         left: Option<u32>,
     },
 }

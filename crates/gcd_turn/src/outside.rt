@@ -4,8 +4,9 @@ ghost use Rattle.gcd_event.specs.declared.event.Event.{Event};
 ghost use Rattle.gcd_event.specs.declared.event.Event.TheVariants.{Halt};
 ghost use Rattle.gcd_history.specs.History.{choice_of};
 ghost use Rattle.gcd_machine.specs.Stands.{StandsFor};
+ghost use Rattle.gcd_outer.specs.Outside.{seen};
 ghost use Rattle.gcd_turn.specs.Asked.{AsksFor, AsksOnFor, HasFailed, HasNotFailed, HasWatched, HearsIdle, HearsOn, KeepsListens, WaitsFor};
-ghost use Rattle.gcd_turn.specs.Outsides.{IsFirst, IsSame};
+ghost use Rattle.gcd_turn.specs.Outsides.{IsFirst, IsSame, faced};
 
 use crate::ask::Ask;
 use crate::outlook::Outlook;
@@ -53,8 +54,7 @@ impl<'a, P: Poller, C: Clock> Outside<'a, P, C> {
         requires { machine.now.plan ≡ plan.now }
         ensures same { IsSame self.old self.new }
         ensures outlook { self.new.outlook ≡ self.old.outlook }
-        ensures asked { AsksFor machine.now plan.now most self.old.outlook (C.state self.new.clock.now).present
-            (P.state self.old.poller.now) (P.state self.new.poller.now) result }
+        ensures asked { AsksFor machine.now plan.now most (faced P.tells C.tells P.state C.state self.old self.new) result }
         ensures heard { HearsOn machine.now plan.now P.tells
             (P.state self.old.poller.now) (P.state self.new.poller.now) self.old.outlook self.new.outlook }
         ensures kept { KeepsListens P.tells (P.state self.old.poller.now) (P.state self.new.poller.now) }
@@ -86,7 +86,7 @@ impl<'a, P: Poller, C: Clock> Outside<'a, P, C> {
         ensures same { IsSame self.old self.new }
         ensures outlook { self.new.outlook ≡ self.old.outlook }
         ensures poller { self.new.poller.now ≡ self.old.poller.now }
-        ensures asked { AsksOnFor machine.now plan.now self.old.outlook (C.state self.new.clock.now).present result }
+        ensures asked { AsksOnFor machine.now plan.now self.old.outlook (seen C.tells C.state self.old.clock.now self.new.clock.now) result }
         ensures goes_on { (C.state self.old.clock.now).present ≤ (C.state self.new.clock.now).present }
         ensures waited { C.tells ≡ true → (C.state self.new.clock.now).waited ≡ (C.state self.old.clock.now).waited }
     {

@@ -7,6 +7,7 @@ ghost use Rattle.gcd_history.specs.Ends.{HasEnded};
 ghost use Rattle.gcd_history.specs.History.{choice_of, is_live_feed, running_of};
 ghost use Rattle.gcd_machine.specs.Stands.{StandsFor};
 ghost use Rattle.gcd_outer.specs.declared.limits.TheConstants.{MAX_FEEDS};
+ghost use Rattle.gcd_outer.specs.Outside.{seen};
 ghost use Rattle.gcd_outer.specs.Tells.{PollerState};
 ghost use Rattle.gcd_turn.specs.Asked.{AllWatched, HasFailed, HasNotFailed, KeepsListens, WaitedFor};
 ghost use Rattle.gcd_turn.specs.Hearing.{Heard};
@@ -148,7 +149,7 @@ pub(crate) fn watch_new<P: Poller>(
 #[inline(always)]
 pub(crate) fn next_time<C: Clock>(start: u64, plan: &Plan, machine: &Machine, clock: &mut C) -> Time
     ensures time { (h : List Event) → StandsFor machine.now plan.now h
-        → IsTime plan.now h start (C.state clock.new).present result }
+        → IsTime plan.now h start (seen C.tells C.state clock.old clock.new) result }
     ensures goes_on { (C.state clock.old).present ≤ (C.state clock.new).present }
     ensures waited { C.tells ≡ true → (C.state clock.new).waited ≡ (C.state clock.old).waited }
 {
