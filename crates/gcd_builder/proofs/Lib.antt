@@ -22,3 +22,4 @@ pub mod Bodied
 pub mod ObjectKinds
 pub mod Steps
 pub mod Refused
+pub mod Chained

@@ -1,5 +1,5 @@
 -- A plan with one thing more.
-use Rattle.std.specs.Prelude.{ℕ, Bool, true, false, List, [], ◌∷◌, ◌++◌, length, Option, Some, None, codes, slice_get, slice_set}
+use Rattle.std.specs.Prelude.{ℕ, Bool, List, [], ◌∷◌, ◌++◌, length, Option, Some, None, codes, slice_get, slice_set}
 use Rattle.std.specs.Option.{option_map_or}
 use Rattle.gcd_plan.specs.PlanView.{PlanView, ObjView, BlkView, FileView, IntakeView, StripView}
 use Rattle.gcd_plan.specs.Limits.{default_until}
@@ -26,6 +26,10 @@ empty_plan =
 -- the queue root
 abbrev pub root : Obj
 root = record { 0 = 0 }
+
+-- the block main
+abbrev pub main : Blk
+main = record { 0 = 0 }
 
 -- a plan with another last due time of timers and limit of waits, in milliseconds
 abbrev pub with_until : ℕ → PlanView → PlanView

@@ -5,3 +5,4 @@ pub mod Bodies
 pub mod Asked
 pub mod Agreement
 pub mod Refusals
+pub mod Chains

@@ -1,5 +1,5 @@
 -- When something may be added to a plan, and what a refusal says.
-use Rattle.std.specs.Prelude.{◌≡◌, ℕ, ◌+◌, ◌≤◌, ◌<◌, not, ◌||◌, ◌&&◌, nat_lt, nat_le, Bool, true, false, List, length, Option, codes, is_none}
+use Rattle.std.specs.Prelude.{◌≡◌, ℕ, ◌+◌, ◌≤◌, ◌<◌, ◌||◌, ◌&&◌, nat_lt, nat_le, Bool, true, false, List, length, Option, codes, is_none}
 use Rattle.std.specs.Option.{option_map_or}
 use Rattle.std.specs.Str.{bytes_eq}
 use Rattle.gcd_plan.specs.Kinds.{has_kind, is_source, is_queue}

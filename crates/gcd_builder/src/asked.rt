@@ -39,4 +39,17 @@ impl Asked {
             Asked::Any => true,
         }
     }
+
+    // What is expected, in words.
+    pub(crate) fn words(self) -> &'static str {
+        match self {
+            Asked::Queue => "a queue",
+            Asked::Source => "a source",
+            Asked::Node => "a queue or a source",
+            Asked::Group => "a group",
+            Asked::Semaphore => "a semaphore",
+            Asked::MergeSource => "a source of merged values",
+            Asked::Any => "an object",
+        }
+    }
 }

@@ -3,10 +3,12 @@ ghost use Rattle.gcd_builder.specs.declared.fault.BuildFault.TheVariants.{Memory
 ghost use Rattle.std.specs.Prelude.{◌≡◌};
 
 use crate::asked::Asked;
+use crate::fault_part::Part;
 use gcd_plan::{Act, Blk, How, Kind, Obj, Run};
 use std::alloc::AllocError;
 use std::error::Error;
 use std::fmt;
+use std::fmt::Display;
 
 /// The rule for which [`crate::PlanBuilder`] adds nothing. Numbers count from 0.
 #[derive(Clone, Copy, PartialEq, Eq)]
@@ -97,15 +99,18 @@ impl BuildFault<'_> {
     }
 }
 
+/// The rule in words, and behind a colon what breaks it: "the name is taken: cache".
 impl fmt::Display for BuildFault<'_> {
     fn fmt<W: fmt::Write>(&self, f: &mut fmt::Formatter<W>) -> fmt::Result {
-        f.write_str(self.what())
+        f.write_str(self.what())?;
+        Part::of(*self).fmt(f)
     }
 }
 
 impl fmt::Debug for BuildFault<'_> {
     fn fmt<W: fmt::Write>(&self, f: &mut fmt::Formatter<W>) -> fmt::Result {
-        f.write_str(self.what())
+        f.write_str(self.what())?;
+        Part::of(*self).fmt(f)
     }
 }
 

@@ -8,6 +8,7 @@
 //! | `block`, `work_block` | the same of a block (`with_block`) |
 //! | `file`, `strip`, `intake` | the same of a file (`with_file`), a strip (`with_strip`) and the intake (`with_intake`), with their blocks |
 //! | `until`, `cancel_block`, `act` | nothing; the last due time, a source's cancellation block, or an act of a body was added (`with_until`, `with_cancel`, `with_act`); or why it was not |
+//! | `main`, `body`, `handler` | a chain of acts of that body (`Body`): each of its calls adds an act, up to the first that is refused (`Goes`); `end` returns that refusal |
 //! | `PlanBuilder::finish` | the plan of exactly what was added, which is valid (`IsPlan`); or out of memory |
 //! | `PlanDraft` | the same additions without a judgement: each requires that it fits |
 //!
@@ -24,11 +25,13 @@
 mod act_checks;
 mod additions;
 mod asked;
+mod body;
 mod builder;
 mod changes;
 mod checks;
 mod draft;
 mod fault;
+mod fault_part;
 mod flags;
 mod made;
 mod meaning;
@@ -37,6 +40,7 @@ mod parts;
 mod taken;
 
 pub use asked::Asked;
+pub use body::Body;
 pub use builder::PlanBuilder;
 pub use draft::PlanDraft;
 pub use fault::BuildFault;

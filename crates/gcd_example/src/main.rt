@@ -10,11 +10,9 @@ ghost use Rattle.std.specs.Prelude.{◌≡◌, IfSome};
 
 use gcd_builder::PlanBuilder;
 use gcd_jobs::Job;
-use gcd_plan::{Act, Blk, Kind, MAX_EVENTS, Run};
+use gcd_plan::{Kind, MAX_EVENTS};
 use gcd_workers::{jobs_of, run_jobs};
 use std::sync::atomic::{AtomicU64, Ordering};
-
-const MAIN: Run = Run::Block(Blk(0));
 
 // A visit of a cache: it writes this number, or reads the one that the cache holds.
 #[derive(Drop)]
@@ -37,10 +35,11 @@ fn main(rt: HostRuntime) -> anyhow::Result<()> {
     let queue = plan.queue("cache", Kind::Concurrent)?;
     let (early, fill) = (plan.block("early")?, plan.block("fill")?);
     let (late, last) = (plan.block("late")?, plan.block("last")?);
-    plan.act(MAIN, Act::Async(queue, early))?;
-    plan.act(MAIN, Act::Barrier(queue, fill))?;
-    plan.act(MAIN, Act::Async(queue, late))?;
-    plan.act(MAIN, Act::Async(queue, last))?;
+    plan.main()
+        .async_on(queue, early)
+        .barrier(queue, fill)
+        .async_all(queue, &[late, last])
+        .end()?;
     let plan = plan.finish()?;
 
     let cache = AtomicU64::new(20);
