@@ -11,9 +11,8 @@ use Rattle.gcd_history.specs.Choice.{is_work, worker_of}
 use Rattle.gcd_history.specs.Ends.{HasEnded}
 use Rattle.gcd_history.specs.History.{choice_of, why}
 use Rattle.gcd_history.specs.Intake.{accepted}
-use Rattle.gcd_loop.specs.Followed.{FollowsChoice}
-use Rattle.gcd_loop.proofs.Follows.{follows_only}
-use Rattle.gcd_history.specs.Held.{is_of}
+use Rattle.gcd_loop.specs.Followed.{FollowsFrom}
+use Rattle.gcd_loop.proofs.Follows.{follows_nothing, follows_only}
 use Rattle.gcd_loop.specs.Recorded.{After, Grows, IsGrown, IsSight, Says}
 use Rattle.gcd_loop.specs.declared.recorder.Step.{Step}
 use Rattle.gcd_loop.specs.declared.recorder.Step.TheVariants.{Placed as StepPlaced, Waited, Stopped, Over}
@@ -36,7 +35,7 @@ use Rattle.gcd_outer.specs.Tells.{PollerState}
 use Rattle.gcd_pool.specs.Admitted.{HandedOn}
 use Rattle.gcd_pool.specs.Leads.{IsHead, Leads, Led, bounds_of}
 use Rattle.gcd_pool.specs.Throughs.{HasWaited, SaysThrough, WasPut}
-use Rattle.gcd_pool.specs.Works.{AddsNone, AddsOnly, AddsWork, is_own_work}
+use Rattle.gcd_pool.specs.Works.{AddsNone, AddsOnly, AddsWork, IsAddedBy, is_own_work}
 use Rattle.gcd_pool.specs.declared.hand.Hand.{Hand}
 use Rattle.gcd_pool.specs.declared.hand.Pool.{Pool}
 use Rattle.gcd_row.proofs.Fronts.{starts_trans}
@@ -45,7 +44,7 @@ use Rattle.gcd_pool.proofs.Puts.{sees_fresh, placed_seen}
 use Rattle.gcd_pool.proofs.Told.{to_lead}
 use Rattle.gcd_pool.proofs.Serves.{sees_serves, most_of_hand, passing_fresh, serves_further, serves_nothing}
 use Rattle.gcd_pool.proofs.Throughs.{barred_hands, full_hands, placed_hands}
-use Rattle.gcd_pool.proofs.Works.{ahead_adds, still_all}
+use Rattle.gcd_pool.proofs.Works.{added_later, ahead_adds, still_all}
 
 -- what worker 0 adds of its own, and what others add, is work
 own_is_work : (e : Event) → is_own_work 0 e ≡ true → is_work e ≡ true
@@ -190,21 +189,28 @@ module _ {S : Type 0} (shape : S → Shape) (gives : S → ℕ → Type 0) (pool
 
   -- ## What no step changes
 
+  -- what worker 0 has added since its first step it has added since this one
+  added_here : (first b : Hand S) → Leads shape gives pool first a → Serving shape gives pool a b → IsAddedBy 0 (view first.pass).seen (view b.pass).seen
+      → IsAddedBy (view a.pass).worker (view a.pass).seen (view b.pass).seen
+  added_here first b kept serving all =
+      subst (λ (n : ℕ). IsAddedBy n (view a.pass).seen (view b.pass).seen) (sym is.head)
+      (added_later 0 (view first.pass).seen (view a.pass).seen (view b.pass).seen kept.serving.view.more serving.view.more all)
+
   pub leads_further : (first b : Hand S) (e : Event) → Serving shape gives pool a b → (pool.alone ≡ true → AddsOnly e (view a.pass) (view b.pass)) → (IsTrue (is_work e) → choice_of plan (view a.pass).seen 0 0 ≡ Some e)
       → Leads shape gives pool first a → Leads shape gives pool first b
   leads_further first b e serving only chosen kept = record {
     serving = serves_further shape gives pool first a b kept.serving serving;
-    follows = λ alone all follows.
-        follows_only plan (view a.pass).seen (view b.pass).seen e ((only alone).only (subst (λ (n : ℕ). list_all (is_of n) (view b.pass).seen ≡ true) (sym is.head) all)) chosen
-        (kept.follows alone (still_all 0 (view a.pass) (view b.pass) serving.view.more all) follows);
+    follows = λ alone all.
+        follows_only (length (view first.pass).seen) plan (view a.pass).seen (view b.pass).seen e ((only alone).only (added_here first b kept serving all)) chosen
+        (kept.follows alone (still_all 0 (view first.pass).seen (view a.pass) (view b.pass) serving.view.more all));
   }
 
   pub look_leads : (first b : Hand S) → Serving shape gives pool a b → AddsNone (view a.pass) (view b.pass) → Leads shape gives pool first a → Leads shape gives pool first b
   look_leads first b serving none kept = record {
     serving = serves_further shape gives pool first a b kept.serving serving;
-    follows = λ alone all follows.
-        subst (FollowsChoice plan) (sym (none.none (subst (λ (n : ℕ). list_all (is_of n) (view b.pass).seen ≡ true) (sym is.head) all)))
-        (kept.follows alone (still_all 0 (view a.pass) (view b.pass) serving.view.more all) follows);
+    follows = λ alone all.
+        subst (FollowsFrom (length (view first.pass).seen) plan) (sym (none.none (added_here first b kept serving all)))
+        (kept.follows alone (still_all 0 (view first.pass).seen (view a.pass) (view b.pass) serving.view.more all));
   }
 
   pub passed_leads : (first b : Hand S) → Serving shape gives pool a b → view b.pass ≡ knowing (view a.pass) (view a.pass).seen (view b.pass).marks → Leads shape gives pool first a → Leads shape gives pool first b
@@ -255,7 +261,7 @@ module _ {S : Type 0} (shape : S → Shape) (gives : S → ℕ → Type 0) (pool
       grown most plan (view a.pass).seen (view b.pass).seen (machine_of b.pass) (hand_sight b serving) (adds_grows (view a.pass) (view b.pass) is.head adds)
 
 pub leads_nowhere : {S : Type 0} → (shape : S → Shape) (gives : S → ℕ → Type 0) (pool : Pool S) (a : Hand S) → IsHandOf shape gives pool a → Leads shape gives pool a a
-leads_nowhere shape gives pool a of = record { serving = serves_nothing shape gives pool a of; follows = λ alone all follows. follows }
+leads_nowhere shape gives pool a of = record { serving = serves_nothing shape gives pool a of; follows = λ alone all. follows_nothing pool.plan.now (view a.pass).seen }
 
 -- who knows more of when a team has one hand, and of when worker 0 is done
 pub led_where : {S P C : Type 0} → (p c : Bool) (poller : P → PollerState) (clock : C → ClockState) (A B D E : Type 0) (old new : Hand S × Outside P C) → (B → A) → (E → D) → Led p c poller clock A D old new → Led p c poller clock B E old new

@@ -1,11 +1,9 @@
 -- What worker 0 of a pool promises of its poller and its clock.
 use Rattle.std.proofs.Common.{◌≡◌, ◌≤◌, ℕ, Bool, true, List, length, sym, subst}
-use Rattle.std.specs.List.{list_all}
 use Rattle.gcd_event.specs.declared.event.Event.{Event}
 use Rattle.gcd_plan.specs.PlanView.{PlanView}
 use Rattle.gcd_history.specs.Ends.{HasEnded}
-use Rattle.gcd_loop.specs.Followed.{FollowsChoice}
-use Rattle.gcd_history.specs.Held.{is_of}
+use Rattle.gcd_loop.specs.Followed.{FollowsFrom}
 use Rattle.gcd_loop.specs.Going.{GoesOn}
 use Rattle.gcd_loop.specs.Recorded.{Bounds, IsSight}
 use Rattle.gcd_machine.specs.Stands.{StandsFor}
@@ -20,6 +18,7 @@ use Rattle.gcd_turn.specs.Asked.{KeepsListens}
 use Rattle.gcd_turn.specs.Outsides.{IsSame, faced}
 use Rattle.gcd_turn.specs.declared.outside.Outside.{Outside}
 use Rattle.gcd_pool.specs.Hands.{IsHandOf, IsReady, Serving}
+use Rattle.gcd_pool.specs.Works.{IsAddedBy}
 use Rattle.gcd_pool.specs.declared.hand.Hand.{Hand}
 use Rattle.gcd_pool.specs.declared.hand.Pool.{Pool}
 
@@ -48,9 +47,9 @@ head_sight {S} shape gives pool hand is =
 pub head_left : {S : Type 0} (shape : S → Shape) (gives : S → ℕ → Type 0) (pool : Pool S) (hand : Hand S) → IsHead shape gives pool hand → IsHandOf shape gives pool hand
 head_left shape gives pool hand is = is.ready.of
 
--- where each event that is seen is worker 0's, it follows its choice as before
-abbrev pub Follows : PlanView → List Event → List Event → Type 0
-Follows plan h k = list_all (is_of 0) k ≡ true → FollowsChoice plan h → FollowsChoice plan k
+-- where each event of k from place `length h` on is worker 0's, each of a worker from there on is what worker 0 chooses at its place
+abbrev pub Follows : PlanView → (h k : List Event) → Type 0
+Follows plan h k = IsAddedBy 0 h k → FollowsFrom (length h) plan k
 
 -- what no step of worker 0 changes; alone it follows its choice
 pub record Leads {S : Type 0} (shape : S → Shape) (gives : S → ℕ → Type 0) (pool : Pool S) (old new : Hand S) : Type 0 where

@@ -1,5 +1,5 @@
 -- What a worker adds to the row.
-use Rattle.std.specs.Prelude.{◌≡◌, ◌⊎◌, ℕ, Bool, true, not, ◌||◌, List, ◌++◌, ◌∷◌, [], Option, MatchOption}
+use Rattle.std.specs.Prelude.{◌≡◌, ◌⊎◌, ℕ, Bool, true, not, ◌||◌, List, ◌++◌, ◌∷◌, [], drop, length, Option, MatchOption}
 use Rattle.std.specs.List.{list_all}
 use Rattle.gcd_event.specs.declared.event.Event.{Event}
 use Rattle.gcd_history.specs.Choice.{is_work}
@@ -25,13 +25,17 @@ pub record AddsWork {S : Type 0} (v w : View S) : Type 0 where
   pub work : list_all (is_own_work v.worker) rest ≡ true
   pub handed : w.handed ≡ v.handed
 
--- where each event that is seen is the worker's own, nothing has come
-pub record AddsNone {S : Type 0} (v w : View S) : Type 0 where
-  pub none : list_all (is_of v.worker) w.seen ≡ true → w.seen ≡ v.seen
+-- each event of k from place `length h` on is worker w's
+abbrev pub IsAddedBy : ℕ → (h k : List Event) → Type 0
+IsAddedBy w h k = list_all (is_of w) (drop (length h) k) ≡ true
 
--- where each event that is seen is the worker's own, nothing has come but this event at most
+-- where each event that has come is the worker's own, none has come
+pub record AddsNone {S : Type 0} (v w : View S) : Type 0 where
+  pub none : IsAddedBy v.worker v.seen w.seen → w.seen ≡ v.seen
+
+-- where each event that has come is the worker's own, only this event has come at most
 pub record AddsOnly {S : Type 0} (e : Event) (v w : View S) : Type 0 where
-  pub only : list_all (is_of v.worker) w.seen ≡ true → (w.seen ≡ v.seen) ⊎ (w.seen ≡ v.seen ++ e ∷ [])
+  pub only : IsAddedBy v.worker v.seen w.seen → (w.seen ≡ v.seen) ⊎ (w.seen ≡ v.seen ++ e ∷ [])
 
 -- an end was put: either the turn is over, or nothing of its own has come and the cell is ready still
 pub record WasEndPut {S : Type 0} (shape : S → Shape) (e : Event) (old new : RowPass S) (came : Option Turn) : Type 0 where

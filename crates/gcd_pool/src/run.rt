@@ -62,7 +62,7 @@ fn see_the_ends<S: Slot, R: Wait>(rt: &R, pool: &Pool<S>, hands: &mut Vec<Hand<S
 
 /// Runs a pool until each hand has seen that the run has ended. Worker 0, the first hand, leads with the outside, and accepts the jobs of
 /// outside callers, which it takes by the intake of their front. The other hands serve in their own threads. A team of one needs no thread
-/// and pushes no Drain. If each event of its row is worker 0's, it follows the choice of its machine.
+/// and pushes no Drain. If each event that its row has more than before the call is worker 0's, it follows the choice of its machine there.
 ///
 /// The result tells how the run has ended. Worker 0 has seen the whole row then, and has it in its journal: only a Halt could follow, and
 /// only worker 0 puts a Halt. Returns `Err` only if the journal was refused memory, or no thread was made for a worker. Then worker 0 leaves,

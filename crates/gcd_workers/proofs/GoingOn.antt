@@ -17,9 +17,9 @@ use Rattle.gcd_machine.proofs.Views.Calls.{plan_stands, valid_stands}
 use Rattle.gcd_outer.specs.Outside.{ClockState}
 use Rattle.gcd_outer.specs.Tells.{PollerState}
 use Rattle.gcd_turn.specs.Outsides.{Faced}
-use Rattle.gcd_loop.specs.Followed.{FollowsChoice, IsOfWorkers}
+use Rattle.gcd_loop.specs.Followed.{FollowsChoice, FollowsFrom, IsOfWorkers}
 use Rattle.gcd_loop.specs.Going.{BeginsAt, GoesOn, GoesOnFrom, both, since}
-use Rattle.gcd_loop.proofs.Follows.{workers_of_alone}
+use Rattle.gcd_loop.proofs.Follows.{follows_on, workers_of_alone}
 use Rattle.gcd_loop.proofs.Steps.{goes_through, run_on, runs_plan}
 use Rattle.gcd_row.specs.Jobs.{placed_jobs}
 use Rattle.gcd_row.specs.Passes.{IsPassOf, terms_of, view}
@@ -108,8 +108,9 @@ went_by_team over kept b p n f o values run plan_is most_is cells pass led none 
     let goes : GoesOn (bounds_over over) h k f =
     subst (λ (m : ℕ). GoesOn (record { plan = plan; most = m }) h k f) most_is
     (subst (λ (q : PlanView). GoesOn (record { plan = q; most = (terms_of b).limits.most }) h k f) plan_is going) in
-    let follows_on : n ≡ 1 → FollowsChoice plan k = λ one.
-    subst (λ (q : PlanView). Follows q h k) plan_is (follows one) (all_of_first k (subst (λ (m : ℕ). IsOfWorkers m k) one led.by)) run.chosen in
+    let chosen : n ≡ 1 → FollowsChoice plan k = λ one.
+    let from = subst (λ (q : PlanView). Follows q h k) plan_is (follows one) (all_of_first (length h) k (subst (λ (m : ℕ). IsOfWorkers m k) one led.by)) in
+    subst (FollowsChoice plan) (sym grew.1) (follows_on plan h grew.0 run.chosen (subst (FollowsFrom (length h) plan) grew.1 from)) in
     let of : AreValues plan files k (map (λ (v : Option ℕ). unwrap_or v 0) values) =
     values_after over kept (view p) grew.0 values valid run own
     (subst (λ (t : Terms (Cell FileJob Tally)). AreCellsOf over kept t.cells) (sym terms) cells) grew.1 lawful none are in
@@ -121,7 +122,7 @@ went_by_team over kept b p n f o values run plan_is most_is cells pass led none 
         stands = subst (StandsFor o.machine plan) same (subst (λ (q : PlanView). StandsFor o.machine q k) plan_is stands);
         few = subst (λ (l : List Event). length l ≤ over.most) same few;
         by = subst (IsOfWorkers n) same led.by;
-        chosen = λ one. subst (FollowsChoice plan) same (follows_on one);
+        chosen = λ one. subst (FollowsChoice plan) same (chosen one);
         uncalled = subst AcceptsNone same none;
         state_is = subst (λ (l : List Event). HasState plan l o.state) same (subst (λ (q : PlanView). HasState q k o.state) plan_is state);
         values = subst (λ (l : List Event). AreValues plan files l o.values.items) same (subst (AreValues plan files k) (sym values_are) of);

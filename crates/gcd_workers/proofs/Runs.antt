@@ -1,5 +1,5 @@
 -- What a run by a team promises, of what worker 0 has seen at its end.
-use Rattle.std.proofs.Common.{◌≡◌, ℕ, zero, suc, true, false, List, [], ◌∷◌, refl, ap, sym, subst, arith, eq-eqb}
+use Rattle.std.proofs.Common.{◌≡◌, ℕ, zero, suc, true, false, List, [], ◌∷◌, drop, refl, ap, subst, arith, eq-eqb}
 use Rattle.std.specs.List.{list_all}
 use Rattle.std.proofs.lemmas.Bool.{and_from}
 use Rattle.gcd_plan.specs.PlanView.{PlanView}
@@ -10,9 +10,9 @@ use Rattle.gcd_machine.specs.Stands.{StandsFor}
 use Rattle.gcd_history.specs.Held.{is_of}
 use Rattle.gcd_outer.specs.Outside.{ClockState, Seen}
 use Rattle.gcd_outer.specs.Tells.{PollerState}
-use Rattle.gcd_loop.proofs.Follows.{follows_none}
+use Rattle.gcd_loop.proofs.Follows.{follows_none, follows_on}
 use Rattle.gcd_loop.proofs.Steps.{runs_plan}
-use Rattle.gcd_loop.specs.Followed.{FollowsChoice, IsOfWorkers}
+use Rattle.gcd_loop.specs.Followed.{IsOfWorkers}
 use Rattle.gcd_loop.specs.Going.{IsRunOn}
 use Rattle.gcd_loop.specs.Ran.{RunsPlan}
 use Rattle.gcd_loop.specs.Recorded.{IsSight}
@@ -25,13 +25,15 @@ use Rattle.gcd_pool.specs.Leads.{Follows}
 use Rattle.gcd_workers.specs.Teams.{HasLed}
 use Rattle.gcd_workers.proofs.Wholes.{few_pass}
 
--- each event of the first of the workers is of number 0
-pub all_of_first : (h : List Event) → IsOfWorkers 1 h → list_all (is_of 0) h ≡ true
-all_of_first [] by = refl
-all_of_first (e ∷ h) by =
+-- each event of the first of the workers, from a place on, is of number 0
+pub all_of_first : (n : ℕ) (h : List Event) → IsOfWorkers 1 h → list_all (is_of 0) (drop n h) ≡ true
+all_of_first zero [] by = refl
+all_of_first (suc n) [] by = refl
+all_of_first zero (e ∷ h) by =
     let low = by zero e refl in
     let zero_is : worker_of e ≡ 0 = omega (arith, low) in
-    and_from (is_of 0 e) (list_all (is_of 0) h) (eq-eqb (worker_of e) 0 zero_is) (all_of_first h (λ i f at. by (suc i) f at))
+    and_from (is_of 0 e) (list_all (is_of 0) h) (eq-eqb (worker_of e) 0 zero_is) (all_of_first zero h (λ i f at. by (suc i) f at))
+all_of_first (suc n) (e ∷ h) by = all_of_first n h (λ i f at. by (suc i) f at)
 
 module _ {S : Type 0} (shape : S → Shape) (gives : S → ℕ → Type 0) where
   -- a pass's machine stands for what the pass has seen
@@ -51,5 +53,6 @@ module _ {S : Type 0} (shape : S → Shape) (gives : S → ℕ → Type 0) where
       let most = (terms_of b).limits.most in let plan = (terms_of b).plan in
       let h = (view p).seen in
       runs_plan most plan n calls h (machine_of p) poller clock (pass_sight b p pass) led.by
-      (λ (one : n ≡ 1). follows one (all_of_first h (subst (λ (m : ℕ). IsOfWorkers m h) one led.by)) (subst (FollowsChoice plan) (sym none) (follows_none plan)))
+      (λ (one : n ≡ 1).
+      follows_on plan [] h (follows_none plan) (subst (λ (l : List Event). Follows plan l h) none (follows one) (all_of_first 0 h (subst (λ (m : ℕ). IsOfWorkers m h) one led.by))))
       called unwatched (subst (λ (l : List Event). IsRunOn most plan l h poller clock) none on)

@@ -113,6 +113,6 @@ Grew {S} team h = (d : Hand S) → StartsWith h (view (slice_index_or team.hands
 abbrev pub WentOn : {S : Type 0} → Team S → List Event → Faced → Type 0
 WentOn {S} team h f = (d : Hand S) → GoesOn (bounds_on team.pool.now.board.now) (view (slice_index_or team.hands.items 0 d).pass).seen h f
 
--- and a team of one follows the choice of worker 0 as before
+-- and from there on a team of one follows the choice of worker 0
 abbrev pub FollowsOn : {S : Type 0} → Team S → List Event → Type 0
 FollowsOn {S} team h = length team.hands.items ≡ 1 → (d : Hand S) → Follows (terms_of team.pool.now.board.now).plan (view (slice_index_or team.hands.items 0 d).pass).seen h
