@@ -38,12 +38,7 @@ impl Story {
     ghost use Rattle.gcd_commands.specs.declared.found.Found.TheVariants.{Nothing};
     ghost use Rattle.gcd_commands.specs.End.{plain_end, usage_end, read_fault, refused_end, no_journal_end, no_intake_end, stop_end, ran_end, lawful_end, unlawful_end};
 
-    fn plain(
-        alloc: Global,
-        status: Status,
-        text: &str,
-        found: Found,
-    ) -> Result<Self, AllocError>
+    fn plain(alloc: Global, status: Status, text: &str, found: Found) -> Result<Self, AllocError>
         ensures told { IfOk result (λ s. end_of s ≡ plain_end status text.now) }
         ensures found { IfOk result (λ s. s.found ≡ found) }
     {
@@ -83,12 +78,7 @@ impl Story {
         Story::plain(alloc, Status::NoIntake, "no intake\n", Found::Nothing)
     }
 
-    fn refused(
-        alloc: Global,
-        line: u32,
-        code: u8,
-        found: Found,
-    ) -> Result<Self, AllocError>
+    fn refused(alloc: Global, line: u32, code: u8, found: Found) -> Result<Self, AllocError>
         ensures told { IfOk result (λ s. end_of s ≡ refused_end line code) }
         ensures found { IfOk result (λ s. s.found ≡ found) }
     {

@@ -34,15 +34,17 @@ loop-index-preserved c =
 pub returns-then-is_some : goal.returns-then-is_some
 returns-then-is_some c =
     let plan = c.args.plan.now in
-    let h = take c.loop-index.index c.args.events.now in
-    (record {
-      event = get_or c.args.events.now c.loop-index.index _;
-      there = slice_get-get_or c.args.events.now c.loop-index.index _ c.loop-index-test.true;
-      front = lawful_stands c.loop-index.machine plan h c.loop-index.invariant;
-      barred =
-          subst (λ (e : Event). is_some (why plan h e) ≡ true) (c.event-event.ensures.exact ∙ c.index-events-index.is)
-          (ap is_some (sym (c.permits.ensures plan h c.loop-index.invariant)) ∙ sym c.is_some.ensures ∙ c.if-is_some.true);
-    }, c.loop-index.invariant)
+    let h = take c.loop-index.index c.args.events.now in (
+      record {
+        event = get_or c.args.events.now c.loop-index.index _;
+        there = slice_get-get_or c.args.events.now c.loop-index.index _ c.loop-index-test.true;
+        front = lawful_stands c.loop-index.machine plan h c.loop-index.invariant;
+        barred =
+            subst (λ (e : Event). is_some (why plan h e) ≡ true) (c.event-event.ensures.exact ∙ c.index-events-index.is)
+            (ap is_some (sym (c.permits.ensures plan h c.loop-index.invariant)) ∙ sym c.is_some.ensures ∙ c.if-is_some.true);
+      },
+      c.loop-index.invariant,
+    )
 
 pub returns : goal.returns
 returns c =
