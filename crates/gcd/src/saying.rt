@@ -2,12 +2,11 @@
 
 use crate::missed::Missed;
 use crate::script_shelf::ScriptShelf;
-use gcd_plan::{MAX_EVENTS, MAX_SCRIPT_BYTES, Plan};
+use gcd_plan::MAX_EVENTS;
 use gcd_run::{Account, Found, Status};
-use gcd_script::parse;
 use gcd_why::{
-    CUT_OFF, NO_INTAKE, NO_MEMORY, RunEnd, Sentence, Unread, cause_at, journal_cause, why_ended,
-    why_event, why_journal, why_run, why_script, why_unread, why_words,
+    CUT_OFF, Judged, NO_INTAKE, NO_MEMORY, RunEnd, Sentence, Unread, line_of_feed, why_ended,
+    why_event, why_journal, why_script, why_words,
 };
 use gcd_words::{CheckRequest, Request};
 use std::alloc::Global;
@@ -36,15 +35,7 @@ pub fn say_status<R: Eprint>(rt: &R, status: Status) -> u8 {
     status.code()
 }
 
-// The plan of the script; None where there is none.
-fn plan_of(alloc: Global, script: &[u8]) -> Option<Plan> {
-    if script.len() > MAX_SCRIPT_BYTES as usize {
-        return None;
-    }
-    parse(alloc, script).ok()
-}
-
-// Why a run of the script, of at most so many events, ended as it did. If the call handed on no machine, the events are replayed.
+// Why a run of the script, of at most so many events, ended as it did.
 fn say_run<R: Eprint>(
     rt: &R,
     alloc: Global,
@@ -53,77 +44,35 @@ fn say_run<R: Eprint>(
     script: &[u8],
     account: &Account,
 ) {
-    let events = account.ended.journal.as_slice();
-    if events.len() > MAX_EVENTS as usize {
+    let Found::Run { plan, machine } = &account.found else {
         return;
-    }
-    let said = match &account.found {
-        Found::Nothing => return,
-        Found::Plan(plan) => why_run(alloc, plan, most, name, script, events),
-        Found::Run { plan, machine } => {
-            let end = RunEnd {
-                plan,
-                machine,
-                events,
-                most,
-            };
-            why_ended(alloc, end, name, script)
-        }
     };
-    if let Ok(said) = said {
+    let end = RunEnd {
+        plan,
+        machine,
+        events: account.ended.journal.as_slice(),
+        most,
+    };
+    if let Ok(said) = why_ended(alloc, end, name, script) {
         for sentence in said.as_slice() {
             say(rt, sentence);
         }
     }
 }
 
-// Why a text is no journal of the script, at that line.
-fn say_journal<R: Eprint + Files>(
-    rt: &R,
-    alloc: Global,
-    name: &str,
-    line: u32,
-    shelf: &ScriptShelf<R>,
-) {
-    let script = shelf.kept(0).unwrap_or(b"".as_slice());
-    let text = shelf.kept(1).unwrap_or(b"".as_slice());
-    if let Some(plan) = plan_of(alloc, script) {
-        let Ok(cause) = journal_cause(alloc, &plan, MAX_EVENTS, text) else {
-            return;
-        };
-        if let Ok(sentence) = why_journal(alloc, MAX_EVENTS, name, text, line, cause) {
-            say(rt, &sentence);
-        }
-    }
-}
-
 // Why an event of a journal is refused.
-fn say_event<R: Eprint>(rt: &R, alloc: Global, name: &str, account: &Account) {
-    let events = account.ended.journal.as_slice();
-    if events.len() > MAX_EVENTS as usize {
-        return;
-    }
-    if let Found::Plan(plan) = &account.found {
-        if let Ok(Some(said)) = why_event(alloc, plan, name, events) {
-            say(rt, &said.sentence);
-        }
-    }
-}
-
-// Why a script is refused, at that line.
-fn say_script<R: Eprint + Files>(
-    rt: &R,
-    alloc: Global,
-    name: &str,
-    line: u32,
-    shelf: &ScriptShelf<R>,
-) {
-    let text = shelf.kept(0).unwrap_or(b"".as_slice());
-    let Ok(cause) = cause_at(alloc, text, line) else {
+fn say_event<R: Eprint>(rt: &R, alloc: Global, name: &str, index: u32, account: &Account) {
+    let Found::Run { plan, machine } = &account.found else {
         return;
     };
-    if let Ok(sentence) = why_script(alloc, name, text, line, cause) {
-        say(rt, &sentence);
+    let judged = Judged {
+        plan,
+        machine,
+        events: account.ended.journal.as_slice(),
+        index,
+    };
+    if let Ok(Some(said)) = why_event(alloc, judged, name) {
+        say(rt, &said.sentence);
     }
 }
 
@@ -142,12 +91,21 @@ fn say_refused<R: Eprint + Files>(
         Request::Big(_) => return,
         Request::Front(request) => (request.script, ""),
     };
-    if account.ended.status == Status::ScriptRefused.code() {
-        say_script(rt, alloc, script, at.0, shelf);
-    } else if at.1 == 1 {
-        say_journal(rt, alloc, journal, at.0, shelf);
-    } else {
-        say_event(rt, alloc, journal, account);
+    let nothing = b"".as_slice();
+    let said = match account.found {
+        Found::Script(cause) => {
+            let text = shelf.kept(0).unwrap_or(nothing);
+            why_script(alloc, script, text, at.0, cause)
+        }
+        Found::Journal(cause) => {
+            let text = shelf.kept(1).unwrap_or(nothing);
+            why_journal(alloc, MAX_EVENTS, journal, text, at.0, cause)
+        }
+        Found::Run { .. } => return say_event(rt, alloc, journal, at.0, account),
+        Found::Nothing | Found::Unread { .. } => return,
+    };
+    if let Ok(sentence) = said {
+        say(rt, &sentence);
     }
 }
 
@@ -190,23 +148,37 @@ pub struct Call<'a> {
     pub account: &'a Account,
 }
 
-// What could not be read, on the line of a run's script that names it; None if none does, or out of memory.
-fn unread_by<'a, R: Eprint + Files>(
+// The line of the script that names what could not be read; 0 if none does.
+fn line_of<R: Files + Eprint>(account: &Account, shelf: &ScriptShelf<R>, unread: Unread) -> u32 {
+    match (unread, &account.found) {
+        (Unread::File { .. }, Found::Unread { line }) => *line,
+        (Unread::Feed { path, .. }, Found::Run { plan, .. }) => {
+            line_of_feed(plan, shelf.kept(0).unwrap_or(b"".as_slice()), path)
+        }
+        _ => 0,
+    }
+}
+
+// Says what could not be read, on the line of the script that names it, if one does.
+fn say_unread<R: Eprint + Files>(
+    rt: &R,
     alloc: Global,
-    request: Option<Request<'a>>,
+    call: Call,
     shelf: &ScriptShelf<R>,
     unread: Unread,
-) -> Option<Sentence<'a>> {
-    let script = match request? {
-        Request::Run(request) => request.script,
-        Request::Front(request) => request.script,
-        Request::Check(_) | Request::Big(_) => return None,
+) {
+    let name = match call.request {
+        Some(Request::Run(request)) => request.script,
+        Some(Request::Front(request)) => request.script,
+        Some(Request::Check(_)) | Some(Request::Big(_)) | None => "",
     };
-    let text = shelf.kept(0)?;
-    let plan = plan_of(alloc, text)?;
-    why_unread(alloc, &plan, script, text, unread)
-        .ok()
-        .flatten()
+    let line = line_of(call.account, shelf, unread);
+    if line > 0 {
+        if let Ok(sentence) = Sentence::of(alloc, name, line, unread) {
+            return say(rt, &sentence);
+        }
+    }
+    say(rt, &unread);
 }
 
 /// Says why the call ended as it did. If memory runs out, it says no more.
@@ -226,10 +198,7 @@ pub fn say_ended<R: Eprint + Files>(
         say(rt, &why_words(call.words));
     } else if status == Status::Unread.code() {
         if let Some(missed) = missed {
-            match unread_by(alloc, call.request, shelf, missed.unread()) {
-                Some(sentence) => say(rt, &sentence),
-                None => say(rt, &missed.unread()),
-            }
+            say_unread(rt, alloc, call, shelf, missed.unread());
         }
     } else if let Some(request) = call.request {
         say_request(rt, alloc, request, call.account, shelf);

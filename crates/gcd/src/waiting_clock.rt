@@ -2,6 +2,7 @@
 ghost use Rattle.std.specs.Prelude.{◌≡◌};
 
 use gcd_outer::Clock;
+use gcd_why::Grouped;
 
 /// How far a moment must be ahead for the clock to say that it waits, in milliseconds.
 const PATIENCE: u64 = 2000;
@@ -46,7 +47,7 @@ impl<'a, R: Eprint, C: Clock> Clock for WaitingClock<'a, R, C> {
     fn wait_until(&mut self, t: u64) {
         if self.is_watched {
             if t.saturating_sub(self.clock.now()) > PATIENCE {
-                let due = t.saturating_sub(self.start.unwrap_or(0));
+                let due = Grouped(t.saturating_sub(self.start.unwrap_or(0)));
                 let _ = eprintln!(self.rt; "waiting until {due} ms");
             }
         }

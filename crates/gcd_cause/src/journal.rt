@@ -6,7 +6,7 @@ use gcd_journal::{Field, JournalCause};
 use gcd_text::{cut_at, printable};
 use std::fmt;
 
-/// Why a text is no journal at a line: the cause that the reader told, the line, and how many events it may have.
+/// Why a text is no journal at a line: the cause that was told, the line, and how many events it may have.
 #[derive(Clone, Copy)]
 pub struct JournalWords<'a> {
     cause: JournalCause,
@@ -28,8 +28,7 @@ fn rest_after(text: &[u8], lines: u32) -> &[u8] {
     rest
 }
 
-/// Returns why the text is no journal of at most `most` events at that line, with the cause that the reader told. Line 0 is the text as
-/// a whole, which is too long.
+/// Returns why the text is no journal of at most `most` events at that line, with the cause that the reader or the loading told.
 pub fn cause_of_journal<'a>(
     text: &'a [u8],
     most: u32,
@@ -110,14 +109,16 @@ impl<'a> JournalWords<'a> {
                 let (most, plural) = (self.most, if self.most == 1 { "" } else { "s" });
                 write!(f, "a journal has at most {most} event{plural}")
             }
-            JournalCause::NoForm | JournalCause::NoEnd => self.write_form(f, line),
+            JournalCause::NoForm | JournalCause::NoEnd | JournalCause::TooLong => {
+                self.write_form(f, line)
+            }
         }
     }
 }
 
 impl<'a> fmt::Display for JournalWords<'a> {
     fn fmt<W: fmt::Write>(&self, f: &mut fmt::Formatter<W>) -> fmt::Result {
-        if self.number == 0 {
+        if let JournalCause::TooLong = self.cause {
             return f.write_str("the journal has more than 16777216 bytes");
         }
         if self.rest.is_empty() {

@@ -94,10 +94,10 @@ loaded_count s (file ∷ files) [] loaded = absurd loaded
 
 -- what a part of a call saw, said of the whole call
 module _ (s t : Seen ShelfState) (same : SameShelf s t) (before : t.before.faults ≤ s.before.faults) (after : s.after.faults ≤ t.after.faults) where
-  pub load_since : (name : Bytes) (most : ℕ) (longer stop : Stop) → StopsLoad s name most longer stop → StopsLoad t name most longer stop
-  load_since name most longer stop (unread why is) = unread (unread_same s t same before after name why) is
-  load_since name most longer stop (long why is) = long (longer_same s t same name most why) is
-  load_since name most longer stop (wanting is) = wanting is
+  pub load_since : (name : Bytes) (most line : ℕ) (longer stop : Stop) → StopsLoad s name most line longer stop → StopsLoad t name most line longer stop
+  load_since name most line longer stop (unread why is) = unread (unread_same s t same before after name why) is
+  load_since name most line longer stop (long why is) = long (longer_same s t same name most why) is
+  load_since name most line longer stop (wanting is) = wanting is
 
   next_since : (files : List FileView) (f : ℕ) (file : FileView) → IsNextFile s files f file → IsNextFile t files f file
   next_since files f file next = record {
@@ -110,13 +110,13 @@ module _ (s t : Seen ShelfState) (same : SameShelf s t) (before : t.before.fault
   file_since files f stop stops = record {
     file = stops.file;
     next = next_since files f stops.file stops.next;
-    unloaded = load_since stops.file.path max_file_bytes _ stop stops.unloaded;
+    unloaded = load_since stops.file.path max_file_bytes _ _ stop stops.unloaded;
   }
 
   pub script_since : (name : Bytes) (stop : Stop) → StopsScript s name stop → StopsScript t name stop
-  script_since name stop (script_unloaded why) = script_unloaded (load_since name max_script_bytes _ stop why)
-  script_since name stop (script_refused script line code loaded fault is) =
-      script_refused script line code (loaded_same s t same name max_script_bytes script loaded) fault is
+  script_since name stop (script_unloaded why) = script_unloaded (load_since name max_script_bytes _ _ stop why)
+  script_since name stop (script_refused script line cause loaded fault is) =
+      script_refused script line cause (loaded_same s t same name max_script_bytes script loaded) fault is
   script_since name stop (script_wanting is) = script_wanting is
 
   pub plan_since : (name : Bytes) (plan : PlanView) → IsPlanOf s name plan → IsPlanOf t name plan
@@ -130,9 +130,9 @@ module _ (s t : Seen ShelfState) (same : SameShelf s t) (before : t.before.fault
   }
 
   pub journal_since : (name : Bytes) (plan : PlanView) (stop : Stop) → StopsJournal s name plan stop → StopsJournal t name plan stop
-  journal_since name plan stop (journal_unloaded why) = journal_unloaded (load_since name max_file_bytes _ stop why)
-  journal_since name plan stop (journal_refused text line loaded at is) =
-      journal_refused text line (loaded_same s t same name max_file_bytes text loaded) at is
+  journal_since name plan stop (journal_unloaded why) = journal_unloaded (load_since name max_file_bytes _ _ stop why)
+  journal_since name plan stop (journal_refused text line cause loaded at is) =
+      journal_refused text line cause (loaded_same s t same name max_file_bytes text loaded) at is
   journal_since name plan stop (journal_wanting is) = journal_wanting is
 
 -- ## Counts of loads

@@ -8,6 +8,8 @@ use Rattle.gcd_history.specs.History.{IsLawful}
 use Rattle.gcd_history.specs.declared.state.State.{State}
 use Rattle.gcd_journal.specs.Journals.{IsJournal, IsRefusedAt}
 use Rattle.gcd_journal.specs.Judged.{IsFirstBarred}
+use Rattle.gcd_journal.specs.declared.cause.JournalCause.{JournalCause}
+use Rattle.gcd_journal.specs.declared.cause.JournalCause.TheVariants.{TooLong}
 use Rattle.gcd_outer.specs.Outside.{Bytes, Seen, ShelfState}
 use Rattle.gcd_commands.specs.End.{End, lawful_end, stop_end, unlawful_end}
 use Rattle.gcd_commands.specs.Loads.{IsLoaded, IsPlanOf, StopsLoad, StopsScript}
@@ -20,11 +22,15 @@ pub record IsJournalAt (shelf : Seen ShelfState) (name : Bytes) (plan : PlanView
   pub loaded : IsLoaded shelf name max_file_bytes text
   pub journal_is : IsJournal max_events plan text h
 
--- why no journal was read: its text was not loaded, where line 0 is the journal as a whole; or it is none
+-- what a journal is told for that is too long; line 0 is the journal as a whole
+abbrev pub long_journal : Stop
+long_journal = Journal 0 TooLong
+
+-- why no journal was read: its text was not loaded, or it is none
 pub data StopsJournal (shelf : Seen ShelfState) (name : Bytes) (plan : PlanView) (stop : Stop) : Type 0 where
-  unloaded : StopsLoad shelf name max_file_bytes (Journal 0) stop → StopsJournal shelf name plan stop
-  refused : (text : Bytes) (line : ℕ) → IsLoaded shelf name max_file_bytes text → IsRefusedAt max_events plan text line → stop ≡ Journal line
-      → StopsJournal shelf name plan stop
+  unloaded : StopsLoad shelf name max_file_bytes 0 long_journal stop → StopsJournal shelf name plan stop
+  refused : (text : Bytes) (line : ℕ) (cause : JournalCause) → IsLoaded shelf name max_file_bytes text
+      → IsRefusedAt max_events plan text line → stop ≡ Journal line cause → StopsJournal shelf name plan stop
   wanting : stop ≡ Memory → StopsJournal shelf name plan stop
 
 -- what is told of events: they are lawful, or one of them is the first that is not permitted

@@ -11,6 +11,7 @@ use Rattle.gcd_history.specs.declared.state.State.{State}
 use Rattle.gcd_history.specs.declared.state.State.TheVariants.{Drained as RunDrained, Stuck as RunStuck, Misused as RunMisused, Halted as RunHalted, Live as RunLive}
 use Rattle.gcd_jobs.specs.BlockValues.{has_given}
 use Rattle.gcd_outer.specs.Outside.{Bytes}
+use Rattle.gcd_script.specs.Causes.{cause_code}
 use Rattle.gcd_commands.specs.StatusCodes.{status_of}
 use Rattle.gcd_commands.specs.declared.status.Status.{Status}
 use Rattle.gcd_commands.specs.declared.status.Status.TheVariants.{Drained, NoCommand, ScriptRefused, Unread, JournalRefused, NoIntake}
@@ -61,9 +62,9 @@ no_intake_end = plain_end NoIntake (codes "no intake\n")
 
 -- how a call ends that stops for this cause; None where memory ran out, for then nothing is told
 abbrev pub stop_end : Stop → Option End
-stop_end CantRead = Some read_fault
-stop_end (Script line code) = Some (refused_end line code)
-stop_end (Journal line) = Some (no_journal_end line)
+stop_end (CantRead line) = Some read_fault
+stop_end (Script line cause) = Some (refused_end line (cause_code cause))
+stop_end (Journal line cause) = Some (no_journal_end line)
 stop_end LacksIntake = Some no_intake_end
 stop_end Memory = None
 

@@ -19,4 +19,4 @@ pub record FailsToListen (poller : Seen PollerState) (address : Option Bytes) (s
   pub asked_is : address ≡ Some asked
   pub failed : PollerFailed poller
   pub listening : Listening poller 1 []
-  pub stop_is : stop ≡ Unread
+  pub stop_is : stop ≡ Unread 0

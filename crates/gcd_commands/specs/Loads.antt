@@ -4,8 +4,10 @@ use Rattle.gcd_plan.specs.Limits.{max_file_bytes, max_script_bytes}
 use Rattle.gcd_plan.specs.PlanView.{PlanView, FileView}
 use Rattle.gcd_plan.specs.Validity.{IsPlan}
 use Rattle.gcd_outer.specs.Outside.{Bytes, Seen, ShelfState, Holds, IsUnread, IsLonger}
-use Rattle.gcd_script.specs.declared.refusal.Refusal.TheVariants.{PastLimit}
-use Rattle.gcd_script.specs.Codes.{refusal_code}
+use Rattle.gcd_script.specs.declared.cause.Cause.{Cause}
+use Rattle.gcd_script.specs.declared.cause.Cause.TheVariants.{PastLimit}
+use Rattle.gcd_script.specs.declared.cause.Limit.TheVariants.{Script as AllBytes, File as FileBytes}
+use Rattle.gcd_script.specs.Causes.{cause_code}
 use Rattle.gcd_script.specs.Faults.{IsScriptOf, fault_of}
 use Rattle.gcd_commands.specs.Calls.{MadeLoads}
 use Rattle.gcd_commands.specs.declared.stop.Stop.{Stop}
@@ -46,24 +48,32 @@ pub record IsReady (shelf : Seen ShelfState) (name : Bytes) (plan : PlanView) (c
 
 -- ## Why a call stops
 
--- why what stands under the name was not loaded: it can't be read, it is longer than its limit, or memory ran out
-pub data StopsLoad (shelf : Seen ShelfState) (name : Bytes) (most : ℕ) (longer stop : Stop) : Type 0 where
-  unread : IsUnread shelf name → stop ≡ Unread → StopsLoad shelf name most longer stop
-  long : IsLonger shelf name most → stop ≡ longer → StopsLoad shelf name most longer stop
-  wanting : stop ≡ Memory → StopsLoad shelf name most longer stop
+-- why what stands under the name was not loaded: it can't be read, which line of the script declares; it is longer than its limit; or
+-- memory ran out
+pub data StopsLoad (shelf : Seen ShelfState) (name : Bytes) (most line : ℕ) (longer stop : Stop) : Type 0 where
+  unread : IsUnread shelf name → stop ≡ Unread line → StopsLoad shelf name most line longer stop
+  long : IsLonger shelf name most → stop ≡ longer → StopsLoad shelf name most line longer stop
+  wanting : stop ≡ Memory → StopsLoad shelf name most line longer stop
+
+-- what a script is told for that is too long, and at its line a file of it
+abbrev pub long_script : Stop
+long_script = Script 0 (PastLimit AllBytes)
+
+abbrev pub long_file : (line : ℕ) → Stop
+long_file line = Script line (PastLimit FileBytes)
 
 -- why the script of this name declares no plan: it was not loaded, or it is no script; line 0 is the script as a whole
 pub data StopsScript (shelf : Seen ShelfState) (name : Bytes) (stop : Stop) : Type 0 where
-  unloaded : StopsLoad shelf name max_script_bytes (Script 0 (refusal_code PastLimit)) stop → StopsScript shelf name stop
-  refused : (script : Bytes) (line code : ℕ) → IsLoaded shelf name max_script_bytes script → fault_of script ≡ Some (line, code)
-      → stop ≡ Script line code → StopsScript shelf name stop
+  unloaded : StopsLoad shelf name max_script_bytes 0 long_script stop → StopsScript shelf name stop
+  refused : (script : Bytes) (line : ℕ) (cause : Cause) → IsLoaded shelf name max_script_bytes script
+      → fault_of script ≡ Some (line, cause_code cause) → stop ≡ Script line cause → StopsScript shelf name stop
   wanting : stop ≡ Memory → StopsScript shelf name stop
 
 -- file f is next, and was not loaded; a file that is too long is refused at its line of the script
 pub record StopsFile (shelf : Seen ShelfState) (files : List FileView) (f : ℕ) (stop : Stop) : Type 0 where
   pub file : FileView
   pub next : IsNextFile shelf files f file
-  pub unloaded : StopsLoad shelf file.path max_file_bytes (Script file.line (refusal_code PastLimit)) stop
+  pub unloaded : StopsLoad shelf file.path max_file_bytes file.line (long_file file.line) stop
 
 -- why the files were not loaded: one of them was not; with one load for each file up to that
 pub record StopsFiles (shelf : Seen ShelfState) (files : List FileView) (stop : Stop) : Type 0 where

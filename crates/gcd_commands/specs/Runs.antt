@@ -50,7 +50,7 @@ pub record TellsRun (poller : Seen PollerState) (clock : Seen ClockState) (plan 
 pub data StopsRun (seen : InputsSeen) (asked : RunAsked) (calls : Calls) (stop : Stop) : Type 0 where
   unready : (n : ℕ) → StopsReady seen.shelf asked.script n stop → calls ≡ only_loads n → StopsRun seen asked calls stop
   at_listen : (plan : PlanView) (contents : List Bytes) (address : Bytes) → IsReady seen.shelf asked.script plan contents
-      → asked.listen ≡ Some address → PollerFailed seen.poller → stop ≡ Unread → calls ≡ failed_listen (length plan.files + 1)
+      → asked.listen ≡ Some address → PollerFailed seen.poller → stop ≡ Unread 0 → calls ≡ failed_listen (length plan.files + 1)
       → StopsRun seen asked calls stop
   wanting : (plan : PlanView) (contents : List Bytes) → IsReady seen.shelf asked.script plan contents → stop ≡ Memory
       → calls ≡ with_listen (length plan.files + 1) asked.listen → StopsRun seen asked calls stop

@@ -1,22 +1,21 @@
 // The command that judges a journal.
-ghost use Rattle.std.specs.Prelude.{◌≡◌, ◌≤◌, length, IfOk, IfErr, OnErr};
+ghost use Rattle.std.specs.Prelude.{◌≤◌, length, IfOk, IfErr, OnErr};
 ghost use Rattle.gcd_plan.specs.Limits.{max_events};
 ghost use Rattle.gcd_outer.specs.Outside.{seen};
 ghost use Rattle.gcd_commands.specs.Calls.{MadeLoads};
 ghost use Rattle.gcd_commands.specs.Checks.{IsCheckCount, IsJournalAt, IsJudged, StopsJournal};
 ghost use Rattle.gcd_commands.specs.Commands.{CheckStops, CheckTells};
-ghost use Rattle.gcd_commands.specs.Hands.{HandsPlan};
+ghost use Rattle.gcd_commands.specs.Hands.{HandsCheck, IsJudgeOf};
 ghost use Rattle.gcd_commands.specs.Loads.{IsPlanOf, SomeLoads};
 ghost use Rattle.gcd_commands.specs.Stories.{end_of};
-ghost use Rattle.gcd_commands.specs.declared.found.Found.TheVariants.{Plan as OfPlan};
-ghost use Rattle.gcd_commands.specs.declared.stop.Stop.TheVariants.{Memory};
 
 use crate::found::Found;
 use crate::load::{load_plan, load_whole};
 use crate::stop::Stop;
 use crate::story::Story;
 use gcd_event::Entry;
-use gcd_journal::{CheckFault, JournalFault, check, read_journal};
+use gcd_journal::{JournalCause, JournalFault, judge, read_journal};
+use gcd_machine::Machine;
 use gcd_outer::Shelf;
 use gcd_plan::{MAX_EVENTS, MAX_FILE_BYTES, Plan};
 use gcd_words::CheckRequest;
@@ -34,27 +33,34 @@ fn load_journal<S: Shelf>(
     ensures loads { MadeLoads (seen S.tells S.state shelf.old shelf.new) 1 }
     ensures faults { (S.state shelf.old).faults ≤ (S.state shelf.new).faults }
 {
-    let too_long = Stop::Journal { line: 0 };
-    let text = load_whole(alloc, shelf, name, MAX_FILE_BYTES, too_long)?;
+    let too_long = Stop::Journal {
+        line: 0,
+        cause: JournalCause::TooLong,
+    };
+    let text = load_whole(alloc, shelf, name, MAX_FILE_BYTES, 0, too_long)?;
     match read_journal(alloc, plan, MAX_EVENTS, &text) {
         Ok(journal) => Ok(journal),
-        Err(JournalFault::Refused { line, .. }) => Err(Stop::Journal { line: line as u32 }),
+        Err(JournalFault::Refused { line, cause }) => Err(Stop::Journal {
+            line: line as u32,
+            cause,
+        }),
         Err(JournalFault::Memory) => Err(Stop::Memory),
     }
 }
 
-// Judges the events, and hands on the plan. Returns `Err` if memory runs out.
-fn judge(alloc: Global, plan: Plan, journal: Vec<Entry>) -> Result<Story, AllocError>
+// Judges the events, and hands on the plan and the machine that took those that are permitted. Returns `Err` if memory runs out.
+fn judge_journal(alloc: Global, plan: Plan, journal: Vec<Entry>) -> Result<Story, AllocError>
     requires few { length journal.items ≤ max_events }
     ensures judged { IfOk result (λ s. IsJudged plan journal.items (end_of s)) }
-    ensures found { IfOk result (λ s. s.found ≡ OfPlan plan) }
+    ensures found { IfOk result (λ s. IsJudgeOf plan (end_of s) s.found) }
 {
-    match check(alloc, &plan, &journal) {
-        Ok(state) => Story::lawful(alloc, journal, state, Found::Plan(plan)),
-        Err(CheckFault::Unlawful { index }) => {
-            Story::unlawful(alloc, journal, index, Found::Plan(plan))
+    let mut machine = Machine::new(alloc, &plan)?;
+    match judge(&plan, &mut machine, &journal) {
+        None => {
+            let state = machine.state();
+            Story::lawful(alloc, journal, state, Found::Run { plan, machine })
         }
-        Err(CheckFault::Memory) => Err(AllocError),
+        Some(index) => Story::unlawful(alloc, journal, index, Found::Run { plan, machine }),
     }
 }
 
@@ -65,19 +71,21 @@ fn check_journal<S: Shelf>(
     shelf: &mut S,
 ) -> Result<Story, Stop>
     ensures reported { IfOk result (λ s. CheckTells (seen S.tells S.state shelf.old shelf.new) request.entry (end_of s)) }
-    ensures found { IfOk result (λ s. HandsPlan (IsPlanOf (seen S.tells S.state shelf.old shelf.new) request.entry.script.now) (end_of s) s.found) }
+    ensures found { IfOk result (λ s. HandsCheck (IsPlanOf (seen S.tells S.state shelf.old shelf.new) request.entry.script.now) (end_of s) s.found) }
     ensures stopped { IfErr result (CheckStops (seen S.tells S.state shelf.old shelf.new) request.entry) }
 {
     let plan = load_plan(alloc, shelf, request.script)?;
     let journal = load_journal(alloc, &plan, shelf, request.journal)?;
-    match judge(alloc, plan, journal) {
+    match judge_journal(alloc, plan, journal) {
         Ok(story) => Ok(story),
         Err(AllocError) => Err(Stop::Memory),
     }
 }
 
 /// Does `check SCRIPT JOURNAL`: loads the script and then the journal, each by one load, and judges the journal's events, of which there
-/// are at most as many as a run can have. No file of the script is loaded. The story has the journal that was read, and hands on the plan.
+/// are at most as many as a run can have. No file of the script is loaded. The story has the journal that was read.
+/// It hands on the plan and the machine that stands for the events before the first that is not permitted, or for all of them; and of a
+/// refused script or journal the cause.
 ///
 /// | status | cause |
 /// |---|---|
@@ -93,7 +101,7 @@ pub fn tell_check<S: Shelf>(
     shelf: &mut S,
 ) -> Result<Story, AllocError>
     ensures reported { IfOk result (λ s. CheckTells (seen S.tells S.state shelf.old shelf.new) request.entry (end_of s)) }
-    ensures found { IfOk result (λ s. HandsPlan (IsPlanOf (seen S.tells S.state shelf.old shelf.new) request.entry.script.now) (end_of s) s.found) }
+    ensures found { IfOk result (λ s. HandsCheck (IsPlanOf (seen S.tells S.state shelf.old shelf.new) request.entry.script.now) (end_of s) s.found) }
     ensures wanting { OnErr result (SomeLoads (seen S.tells S.state shelf.old shelf.new) IsCheckCount) }
 {
     match check_journal(alloc, request, shelf) {

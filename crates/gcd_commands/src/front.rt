@@ -15,10 +15,11 @@ ghost use Rattle.gcd_commands.specs.End.{ran_end};
 ghost use Rattle.gcd_commands.specs.Calls.{inputs};
 ghost use Rattle.gcd_commands.specs.Commands.{FrontBegins, FrontStops, FrontTells};
 ghost use Rattle.gcd_commands.specs.Fronts.{HasIntake, RanBeside, TellsFront, sender_text, value_or_0, values_at};
-ghost use Rattle.gcd_commands.specs.Hands.{HandsPlan};
+ghost use Rattle.gcd_commands.specs.Hands.{HandsRun, IsRunOf};
 ghost use Rattle.gcd_commands.specs.Loads.{IsPlanOf};
 ghost use Rattle.gcd_commands.specs.Stories.{end_of};
-ghost use Rattle.gcd_commands.specs.declared.found.Found.TheVariants.{Plan as OfPlan};
+ghost use Rattle.gcd_machine.specs.Stands.{StandsFor};
+ghost use Rattle.gcd_commands.specs.declared.found.Found.TheVariants.{Run};
 
 use crate::found::Found;
 use crate::front_job::front_jobs;
@@ -57,6 +58,7 @@ fn run_beside_senders<R: Threads + Wait + Sync, P: Poller + Send, C: Clock + Sen
     requires senders { (0 < senders.count) × (senders.count ≤ max_front_senders) }
     requires unwatched { (feed : ℕ) → (P.state poller.old).watched feed ≡ false }
     ensures ran { IfOk result (RanBeside over.entry.plan.now senders.blocks senders.count (seen P.tells P.state poller.old poller.new) (seen C.tells C.state clock.old clock.new)) }
+    ensures stands { IfOk result (λ run. StandsFor run.machine over.entry.plan.now run.journal.items) }
     ensures kept { KeepsListens P.tells (P.state poller.old) (P.state poller.new) }
 {
     let given = Dispatch {
@@ -167,16 +169,22 @@ fn text_of(
     Ok(text)
 }
 
-// Tells a run, and hands on its plan. Returns `Err` if memory runs out.
+// Tells a run, and hands on its plan and its machine. Returns `Err` if memory runs out.
 fn story_of(alloc: Global, plan: Plan, run: Ran, senders: u8) -> Result<Story, AllocError>
     requires few { (s : ℕ) → length (blocks_of_sender run.journal.items s) ≤ max_blocks }
     requires others { (b : ℕ) → is_ended run.journal.items b ≡ false → value_or_0 run.values.items b ≡ 0 }
     requires spoken { AreSpoken plan run.journal.items }
     ensures told { IfOk result (λ s. end_of s ≡ ran_end run.state run.journal.items (front_text plan senders (value_or_0 run.values.items) run.state run.journal.items)) }
-    ensures found { IfOk result (λ s. s.found ≡ OfPlan plan) }
+    ensures found { IfOk result (λ s. s.found ≡ Run plan run.machine) }
 {
     let text = text_of(alloc, &plan, run.state, &run.journal, &run.values, senders);
-    Story::ran(run.state, run.journal, text, Found::Plan(plan))
+    let Ran {
+        journal,
+        values: _,
+        state,
+        machine,
+    } = run;
+    Story::ran(state, journal, text, Found::Run { plan, machine })
 }
 
 // The plan runs beside the senders. Returns `Err` if memory runs out.
@@ -194,7 +202,7 @@ fn run_plan<R: Threads + Wait + Sync, P: Poller + Send, C: Clock + Send>(
     requires senders { (0 < senders.count) × (senders.count ≤ max_front_senders) }
     requires unwatched { (feed : ℕ) → (P.state poller.old).watched feed ≡ false }
     ensures told { IfOk result (λ s. (intake : IntakeView) → plan.intake ≡ Some intake → TellsFront (seen P.tells P.state poller.old poller.new) (seen C.tells C.state clock.old clock.new) plan intake senders.count (end_of s)) }
-    ensures found { IfOk result (λ s. s.found ≡ OfPlan plan) }
+    ensures found { IfOk result (λ s. IsRunOf plan s.journal.items s.found) }
     ensures kept { KeepsListens P.tells (P.state poller.old) (P.state poller.new) }
 {
     let over = Over {
@@ -219,7 +227,7 @@ fn front_script<R: Threads + Wait + Sync, S: Shelf, P: Poller + Send, C: Clock +
     requires senders { (0 < request.senders) × (request.senders ≤ max_front_senders) }
     requires unwatched { (feed : ℕ) → (P.state poller.old).watched feed ≡ false }
     ensures told { IfOk result (λ s. FrontTells (inputs S.Shelf shelf.old shelf.new P.Poller poller.old poller.new C.Clock clock.old clock.new) request.entry (end_of s)) }
-    ensures found { IfOk result (λ s. HandsPlan (IsPlanOf (seen S.tells S.state shelf.old shelf.new) request.entry.script.now) (end_of s) s.found) }
+    ensures found { IfOk result (λ s. HandsRun (IsPlanOf (seen S.tells S.state shelf.old shelf.new) request.entry.script.now) (end_of s) s.found) }
     ensures stopped { IfErr result (FrontStops (seen S.tells S.state shelf.old shelf.new) request.entry) }
     ensures kept { KeepsListens P.tells (P.state poller.old) (P.state poller.new) }
 {
@@ -239,7 +247,8 @@ fn front_script<R: Threads + Wait + Sync, S: Shelf, P: Poller + Send, C: Clock +
 /// hands in its share of jobs for the blocks of the intake, which give 1000 s + 1, 1000 s + 2 and so on: each again until it is accepted,
 /// in order, as callers of dispatch_async(3) do. Then it shuts its mouth. A share is the number of those blocks divided by `senders`,
 /// rounded down. The story has the status of the state to which the run has come, the run's journal, and as its text a line for each
-/// sender and the report's last line. It hands on the plan.
+/// sender and the report's last line. It hands on the plan and the machine
+/// that stands for the journal.
 ///
 /// If a step cannot be taken, no later step is tried, and the story has no journal and this status:
 ///
@@ -262,7 +271,7 @@ pub fn tell_front<R: Threads + Wait + Sync, S: Shelf, P: Poller + Send, C: Clock
     requires senders { (0 < request.senders) × (request.senders ≤ max_front_senders) }
     requires unwatched { (feed : ℕ) → (P.state poller.old).watched feed ≡ false }
     ensures told { IfOk result (λ s. FrontTells (inputs S.Shelf shelf.old shelf.new P.Poller poller.old poller.new C.Clock clock.old clock.new) request.entry (end_of s)) }
-    ensures found { IfOk result (λ s. HandsPlan (IsPlanOf (seen S.tells S.state shelf.old shelf.new) request.entry.script.now) (end_of s) s.found) }
+    ensures found { IfOk result (λ s. HandsRun (IsPlanOf (seen S.tells S.state shelf.old shelf.new) request.entry.script.now) (end_of s) s.found) }
     ensures wanting { OnErr result (FrontBegins (seen S.tells S.state shelf.old shelf.new) request.entry) }
     ensures kept { KeepsListens P.tells (P.state poller.old) (P.state poller.new) }
 {

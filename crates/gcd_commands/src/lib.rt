@@ -7,7 +7,7 @@
 //! | [`tell_large`] | runs the large script over a file that is made |
 //! | [`tell_front`] | runs a script with an intake beside threads that send jobs for it |
 //! | [`Story`] | what each of them gives: a status, a journal, a place, a text and what was found out; [`Story::usage`] is that of words that name no command |
-//! | [`Found`] | what each of them found out and hands on: the plan, and of a run the machine too |
+//! | [`Found`] | what each of them found out and hands on: the plan and the machine, or why it stopped |
 //! | [`Status`] | the ways to end by name, each with its number ([`Status::code`]) |
 //!
 //! `run` loads a script and reads it as a plan (`gcd_script`), loads its files in their order, lets the poller listen if an address is
@@ -29,7 +29,7 @@
 //! | `reported` of `tell_check` (`CheckTells`: `CheckEnds`) | why it stopped, and the story of that stop; or script and journal were loaded and read, and the story says that the events are lawful, or which is the first that is not permitted |
 //! | `reported` of `tell_large` (`BigEnds`) | the plan is that of the large script with so many blocks, its files are the large file, it ran, and the story is that of its journal and state |
 //! | `told` of `tell_front` (`FrontTells`: `FrontEnds`) | as `reported` of `tell_run`; each accepted job is one of a sender, those of each sender stand in its order, a block of the intake that has ended has the value of its sender's job, and if the run has come to rest each sender's jobs are all accepted (`HearsSenders`) |
-//! | `found` (`HandsRun`, `HandsPlan`) | the story of `run` and `big` hands on the plan that ran and a machine that stands for the story's journal; that of `check` and `front` hands on the plan; a story of a stop hands on nothing |
+//! | `found` (`HandsRun`, `HandsCheck`, `HandsStop`) | the story of `run`, `big` and `front` hands on the plan that ran and a machine that stands for the story's journal; that of `check` hands on the plan, and a machine that stands for the journal, or for its events before the first that is not permitted; a story of a stop hands on the cause of a refusal, which is of the line and code that are told, or the line that declares a file that can't be read |
 //! | `wanting` (`RunBegins`, `IsCheckCount`, `FrontBegins`) | if the answer is `Err`, which loads and listens may have been made |
 //! | `kept` of `tell_large`, `tell_front` | no listen was made, and the poller's count of faults did not fall |
 //!

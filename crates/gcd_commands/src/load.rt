@@ -9,19 +9,21 @@ ghost use Rattle.gcd_commands.specs.Loads.{IsLoaded, AreLoaded, IsPlanOf, IsRead
 use crate::stop::Stop;
 use gcd_outer::{LoadFault, Shelf};
 use gcd_plan::{FilePart, MAX_FILE_BYTES, MAX_SCRIPT_BYTES, Plan};
-use gcd_script::{ParseFault, Refusal, parse};
+use gcd_script::{Cause, Limit, ParseFault, parse};
 use std::alloc::Global;
 
-/// Loads what stands under the name, whole, by one load; `longer` is the answer for a content with more than `most` bytes.
+/// Loads what stands under the name, whole, by one load. `line` is the line of the script that declares it, 0 if no line does, and `longer`
+/// is the answer for a content with more than `most` bytes.
 pub fn load_whole<S: Shelf>(
     alloc: Global,
     shelf: &mut S,
     name: &str,
     most: u32,
+    line: u32,
     longer: Stop,
 ) -> Result<Vec<u8>, Stop>
     ensures loaded { IfOk result (λ bytes. IsLoaded (seen S.tells S.state shelf.old shelf.new) name.now most bytes.items) }
-    ensures stopped { IfErr result (StopsLoad (seen S.tells S.state shelf.old shelf.new) name.now most longer) }
+    ensures stopped { IfErr result (StopsLoad (seen S.tells S.state shelf.old shelf.new) name.now most line longer) }
     ensures same { (S.state shelf.new).content ≡ (S.state shelf.old).content }
     ensures faults { (S.state shelf.old).faults ≤ (S.state shelf.new).faults }
     ensures loads { MadeLoads (seen S.tells S.state shelf.old shelf.new) 1 }
@@ -29,8 +31,8 @@ pub fn load_whole<S: Shelf>(
     let mut bytes = Vec::new(alloc);
     match shelf.load(name, most as usize, &mut bytes) {
         Ok(()) => Ok(bytes),
-        Err(LoadFault::Failed) => Err(Stop::Unread),
-        Err(LoadFault::Missing) => Err(Stop::Unread),
+        Err(LoadFault::Failed) => Err(Stop::Unread { line }),
+        Err(LoadFault::Missing) => Err(Stop::Unread { line }),
         Err(LoadFault::TooLong(_)) => Err(longer),
         Err(LoadFault::Memory) => Err(Stop::Memory),
     }
@@ -46,12 +48,12 @@ pub fn load_plan<S: Shelf>(alloc: Global, shelf: &mut S, name: &str) -> Result<P
 {
     let too_long = Stop::Script {
         line: 0,
-        code: Refusal::PastLimit.code(),
+        cause: Cause::PastLimit(Limit::Script),
     };
-    let script = load_whole(alloc, shelf, name, MAX_SCRIPT_BYTES, too_long)?;
+    let script = load_whole(alloc, shelf, name, MAX_SCRIPT_BYTES, 0, too_long)?;
     match parse(alloc, &script) {
         Ok(plan) => Ok(plan),
-        Err(ParseFault::Refused { line, code, .. }) => Err(Stop::Script { line, code }),
+        Err(ParseFault::Refused { line, cause, .. }) => Err(Stop::Script { line, cause }),
         Err(ParseFault::Memory) => Err(Stop::Memory),
     }
 }
@@ -72,9 +74,10 @@ pub fn load_files<S: Shelf>(
     for file in files {
         let too_long = Stop::Script {
             line: file.line,
-            code: Refusal::PastLimit.code(),
+            cause: Cause::PastLimit(Limit::File),
         };
-        let bytes = load_whole(alloc, shelf, file.path.as_str(), MAX_FILE_BYTES, too_long)?;
+        let path = file.path.as_str();
+        let bytes = load_whole(alloc, shelf, path, MAX_FILE_BYTES, file.line, too_long)?;
         if contents.push(bytes).is_err() {
             return Err(Stop::Memory);
         }

@@ -47,7 +47,7 @@ fn listen_at<P: Poller>(poller: &mut P, address: Option<&str>) -> Result<(), Sto
         None => Ok(()),
         Some(address) => match poller.listen(address) {
             Ok(()) => Ok(()),
-            Err(_) => Err(Stop::Unread),
+            Err(_) => Err(Stop::Unread { line: 0 }),
         },
     }
 }

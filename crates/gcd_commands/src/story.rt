@@ -34,19 +34,20 @@ pub fn bytes_of(alloc: Global, text: &str) -> Result<Vec<u8>, AllocError>
 
 impl Story {
     ghost use Rattle.gcd_commands.specs.Stories.{end_of};
+    ghost use Rattle.gcd_commands.specs.Hands.{found_of};
     ghost use Rattle.gcd_commands.specs.declared.found.Found.TheVariants.{Nothing};
     ghost use Rattle.gcd_commands.specs.End.{plain_end, usage_end, read_fault, refused_end, no_journal_end, no_intake_end, stop_end, ran_end, lawful_end, unlawful_end};
 
-    fn plain(alloc: Global, status: Status, text: &str) -> Result<Self, AllocError>
+    fn plain(alloc: Global, status: Status, text: &str, found: Found) -> Result<Self, AllocError>
         ensures told { IfOk result (λ s. end_of s ≡ plain_end status text.now) }
-        ensures found { IfOk result (λ s. s.found ≡ Nothing) }
+        ensures found { IfOk result (λ s. s.found ≡ found) }
     {
         Ok(Story {
             status,
             journal: Vec::new(alloc),
             at: None,
             text: bytes_of(alloc, text)?,
-            found: Found::Nothing,
+            found,
         })
     }
 
@@ -59,26 +60,27 @@ impl Story {
             alloc,
             Status::NoCommand,
             "usage: gcd run SCRIPT [--workers N] [--journal] [--most N] [--listen ADDR] | gcd check SCRIPT JOURNAL | gcd big N [--workers W] | gcd front SCRIPT SENDERS\n",
+            Found::Nothing,
         )
     }
 
-    fn read_fault(alloc: Global) -> Result<Self, AllocError>
+    fn read_fault(alloc: Global, found: Found) -> Result<Self, AllocError>
         ensures told { IfOk result (λ s. end_of s ≡ read_fault) }
-        ensures found { IfOk result (λ s. s.found ≡ Nothing) }
+        ensures found { IfOk result (λ s. s.found ≡ found) }
     {
-        Story::plain(alloc, Status::Unread, "read fault\n")
+        Story::plain(alloc, Status::Unread, "read fault\n", found)
     }
 
     fn no_intake(alloc: Global) -> Result<Self, AllocError>
         ensures told { IfOk result (λ s. end_of s ≡ no_intake_end) }
         ensures found { IfOk result (λ s. s.found ≡ Nothing) }
     {
-        Story::plain(alloc, Status::NoIntake, "no intake\n")
+        Story::plain(alloc, Status::NoIntake, "no intake\n", Found::Nothing)
     }
 
-    fn refused(alloc: Global, line: u32, code: u8) -> Result<Self, AllocError>
+    fn refused(alloc: Global, line: u32, code: u8, found: Found) -> Result<Self, AllocError>
         ensures told { IfOk result (λ s. end_of s ≡ refused_end line code) }
-        ensures found { IfOk result (λ s. s.found ≡ Nothing) }
+        ensures found { IfOk result (λ s. s.found ≡ found) }
     {
         let text = format!(in alloc; "script refused: line {line} code {code}\n")?;
         Ok(Story {
@@ -86,13 +88,13 @@ impl Story {
             journal: Vec::new(alloc),
             at: Some((line, u32::from(code))),
             text: bytes_of(alloc, text.as_str())?,
-            found: Found::Nothing,
+            found,
         })
     }
 
-    fn no_journal(alloc: Global, line: u32) -> Result<Self, AllocError>
+    fn no_journal(alloc: Global, line: u32, found: Found) -> Result<Self, AllocError>
         ensures told { IfOk result (λ s. end_of s ≡ no_journal_end line) }
-        ensures found { IfOk result (λ s. s.found ≡ Nothing) }
+        ensures found { IfOk result (λ s. s.found ≡ found) }
     {
         let text = format!(in alloc; "journal refused: line {line}\n")?;
         Ok(Story {
@@ -100,19 +102,23 @@ impl Story {
             journal: Vec::new(alloc),
             at: Some((line, 1)),
             text: bytes_of(alloc, text.as_str())?,
-            found: Found::Nothing,
+            found,
         })
     }
 
-    /// The call stopped. An `Err` comes where memory runs out.
+    /// The call stopped, and hands on what it found out. An `Err` comes where memory runs out.
     pub(crate) fn stopped(alloc: Global, stop: Stop) -> Result<Self, AllocError>
         ensures told { IfOk result (λ s. stop_end stop ≡ Some (end_of s)) }
-        ensures found { IfOk result (λ s. s.found ≡ Nothing) }
+        ensures found { IfOk result (λ s. s.found ≡ found_of stop) }
     {
         match stop {
-            Stop::Unread => Story::read_fault(alloc),
-            Stop::Script { line, code } => Story::refused(alloc, line, code),
-            Stop::Journal { line } => Story::no_journal(alloc, line),
+            Stop::Unread { line } => Story::read_fault(alloc, Found::Unread { line }),
+            Stop::Script { line, cause } => {
+                Story::refused(alloc, line, cause.code(), Found::Script(cause))
+            }
+            Stop::Journal { line, cause } => {
+                Story::no_journal(alloc, line, Found::Journal(cause))
+            }
             Stop::NoIntake => Story::no_intake(alloc),
             Stop::Memory => Err(AllocError),
         }

@@ -36,4 +36,6 @@ pub enum JournalCause {
     TooMany,
     /// The line lacks its end, or there is none.
     NoEnd,
+    /// The text as a whole has more bytes than a journal may have. The reader does not tell this: the text was not loaded.
+    TooLong,
 }

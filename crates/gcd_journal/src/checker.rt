@@ -1,7 +1,7 @@
 // Judges the events of a run.
 ghost use Rattle.std.specs.Prelude.{◌≡◌, ◌<◌, ◌^◌, [], length, IfOk, IfErr};
 ghost use Rattle.gcd_machine.specs.Stands.{StandsFor};
-ghost use Rattle.gcd_journal.specs.Judged.{IsLawfulWith, IsFaultOf};
+ghost use Rattle.gcd_journal.specs.Judged.{HasTaken, IsLawfulWith, IsFaultOf};
 
 use gcd_event::Entry;
 use gcd_history::State;
@@ -37,24 +37,26 @@ pub fn check(alloc: Global, plan: &Plan, events: &[Entry]) -> Result<State, Chec
     ensures fault { IfErr result (IsFaultOf plan.now events.now) }
 {
     let mut machine = Machine::new(alloc, plan)?;
-    judged(plan, &mut machine, events)
+    match judge(plan, &mut machine, events) {
+        None => Ok(machine.state()),
+        Some(index) => Err(CheckFault::Unlawful { index }),
+    }
 }
 
-// Lets a machine that has taken nothing take the events as long as each is permitted.
-fn judged(plan: &Plan, machine: &mut Machine, events: &[Entry]) -> Result<State, CheckFault>
+/// Lets a machine of the plan that has taken nothing take the events up to the first that is not permitted. Returns the index of that
+/// event, from 0, or None if each event is permitted at its position. The machine then stands for the events before it, or for all of
+/// them, so that its state and the reason why the event is barred can be asked for. It costs what the machine's steps cost.
+pub fn judge(plan: &Plan, machine: &mut Machine, events: &[Entry]) -> Option<u32>
     requires begin { StandsFor machine.old plan.now [] }
     requires few { length events.now < 2 ^ 32 }
-    ensures lawful { IfOk result (IsLawfulWith plan.now events.now) }
-    ensures fault { IfErr result (IsFaultOf plan.now events.now) }
+    ensures { HasTaken plan.now events.now machine.new result }
 {
     for (index, e) in events.iter().enumerate() {
         let event = e.event();
         if machine.permits(event).is_some() {
-            return Err(CheckFault::Unlawful {
-                index: index as u32,
-            });
+            return Some(index as u32);
         }
         machine.apply(event);
     }
-    Ok(machine.state())
+    None
 }

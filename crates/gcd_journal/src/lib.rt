@@ -9,6 +9,7 @@
 //! | [`write_journal`] | adds the text (`journal_text`), or nothing where memory runs out |
 //! | [`read_journal`] | the events of the text's front up to its line `events N` (`IsJournal`); else `Refused` at exactly the first line at fault (`IsRefusedAt`), with its cause, or `Memory` |
 //! | [`check`] | the state to which lawful events have come (`IsLawfulWith`); else `Unlawful` at exactly the first event that is not permitted (`IsFirstBarred`), or `Memory` |
+//! | [`judge`] | what [`check`] finds out, and it leaves a machine that stands for all events, or for those before the first that is not permitted (`HasTaken`) |
 //! | [`write_report`] | adds the report of a run (`report_by`), or nothing where memory runs out; it takes the events by a machine of its own |
 //! | [`write_report_by`] | the same by a machine that stands for the events; it takes no step of a machine where no object of the plan is a source |
 //! | [`laws::journals_are_read_one_way`] | a text is a journal of one list of events at most, and then of no line at fault |
@@ -37,7 +38,7 @@ mod totals;
 mod write;
 
 pub use cause::{Field, JournalCause};
-pub use checker::{CheckFault, check};
+pub use checker::{CheckFault, check, judge};
 pub use reader::{JournalFault, read_journal};
 pub use report::{write_last_line, write_report, write_report_by};
 pub use totals::{Replay, Total, replayed};

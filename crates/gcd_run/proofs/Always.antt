@@ -79,7 +79,7 @@ module _ (seen : InputsSeen) (tells : seen.shelf.tells ≡ true) (name : Bytes) 
 
   -- why a script stops is one
   ready_stops : (n : ℕ) (stop found : Stop) → MustStop seen.shelf.before.content name stop → StopsReady seen.shelf name n found
-      → Fate seen.shelf found (found ≡ stop)
+      → Fate seen.shelf found (stop_end found ≡ stop_end stop)
   ready_stops n stop found (must_at_script no_script) (at_script why one) =
       fate_map seen.shelf found (λ is. one_stop seen.shelf.before.content name found stop is no_script) (script_stops seen.shelf tells name found why)
   ready_stops n stop found (must_at_script no_script) (at_file plan f plan_is stops two) =
@@ -89,7 +89,7 @@ module _ (seen : InputsSeen) (tells : seen.shelf.tells ≡ true) (name : Bytes) 
   ready_stops n stop found (must_at_file plan held is) (at_file other f plan_is stops two) =
       let same : other ≡ plan = one_plan seen.shelf.before.content name other plan (script_held seen.shelf tells name other plan_is.script) held in
       fate_map seen.shelf found
-      (λ at. same_err (subst (λ (p : PlanView). files_at seen.shelf.before.content p.files ≡ Err found) same at) is)
+      (λ at. ap stop_end (same_err (subst (λ (p : PlanView). files_at seen.shelf.before.content p.files ≡ Err found) same at) is))
       (file_stops seen.shelf tells other.files f found stops)
 
   -- a run that has to stop does
@@ -125,7 +125,7 @@ module _ (seen : InputsSeen) (tells : seen.shelf.tells ≡ true) (name : Bytes) 
 
   -- why `front` stops is one
   front_stops_at : (n : ℕ) (stop found : Stop) → MustStopFront seen.shelf.before.content name stop → StopsFront seen.shelf name n found
-      → Fate seen.shelf found (found ≡ stop)
+      → Fate seen.shelf found (stop_end found ≡ stop_end stop)
   front_stops_at n stop found must (front_wanting plan contents ready memory many) = inr (inl memory)
   front_stops_at n stop found (must_front_at_script no_script) (front_at_script why one) =
       ready_stops n stop found (must_at_script no_script) (at_script why one)
@@ -135,7 +135,7 @@ module _ (seen : InputsSeen) (tells : seen.shelf.tells ≡ true) (name : Bytes) 
       absurd (no_plan seen.shelf.before.content name plan stop (script_held seen.shelf tells name plan plan_is.script) no_script)
   front_stops_at n stop found (must_at_intake plan held none is) (front_at_script why one) =
       fate_map seen.shelf found (λ no_script. absurd (no_plan seen.shelf.before.content name plan found held no_script)) (script_stops seen.shelf tells name found why)
-  front_stops_at n stop found (must_at_intake plan held none is) (at_intake other plan_is also found_is one) = inr (inr (found_is ∙ sym is))
+  front_stops_at n stop found (must_at_intake plan held none is) (at_intake other plan_is also found_is one) = inr (inr (ap stop_end (found_is ∙ sym is)))
   front_stops_at n stop found (must_at_intake plan held none is) (front_at_file other intake f plan_is some stops two) =
       one_intake other plan intake (the_plan other plan plan_is held) some none
   front_stops_at n stop found (must_front_at_file plan intake held some is) (front_at_script why one) =

@@ -16,12 +16,12 @@ use Rattle.gcd_commands.specs.Checks.{CheckEnds, IsJournalAt, IsJudged, StopsChe
 use Rattle.gcd_commands.specs.Checks.CheckEnds.{stopped, judged}
 use Rattle.gcd_commands.specs.Checks.IsJudged.{lawful, unlawful}
 use Rattle.gcd_commands.specs.Checks.StopsCheck.{at_script, at_journal}
-use Rattle.gcd_commands.specs.End.{End, lawful_end, no_journal_end, read_fault, stop_end, unlawful_end}
+use Rattle.gcd_commands.specs.End.{End, lawful_end, read_fault, stop_end, unlawful_end}
 use Rattle.gcd_commands.specs.Loads.{IsPlanOf}
 use Rattle.gcd_run.specs.Statuses.{IsLawfulTo}
 use Rattle.gcd_commands.specs.declared.status.Status.TheVariants.{Drained, JournalRefused}
 use Rattle.gcd_commands.specs.declared.stop.Stop.{Stop}
-use Rattle.gcd_commands.specs.declared.stop.Stop.TheVariants.{Unread, Journal, Memory}
+use Rattle.gcd_commands.specs.declared.stop.Stop.TheVariants.{Memory}
 use Rattle.gcd_run.proofs.Statuses.{some_end}
 use Rattle.gcd_run.proofs.Told.{Fate, fate_map, journal_held, journal_stops, no_both, no_journal, no_plan, one_journal, one_journal_stop, one_plan, one_stop, script_held, script_stops}
 
@@ -34,20 +34,20 @@ pub untold : {A : Type 0} (stop : Stop) (end : End) → stop_end stop ≡ Some e
 untold stop end is memory = let none : stop_end Memory ≡ Some end = subst (λ s. stop_end s ≡ Some end) memory is in absurd cc
 
 -- what is told of a stop
-end_of_stop : (found stop : Stop) (end expected : End) → stop_end found ≡ Some end → stop_end stop ≡ Some expected → found ≡ stop
-    → end ≡ expected
-end_of_stop found stop end expected is stop_is same = some_end (sym is ∙ ap stop_end same ∙ stop_is)
+end_of_stop : (found stop : Stop) (end expected : End) → stop_end found ≡ Some end → stop_end stop ≡ Some expected
+    → stop_end found ≡ stop_end stop → end ≡ expected
+end_of_stop found stop end expected is stop_is same = some_end (sym is ∙ same ∙ stop_is)
 
 pub comes_by : (seen : InputsSeen) (stop found : Stop) (end expected : End) → stop_end found ≡ Some end → stop_end stop ≡ Some expected
-    → Fate seen.shelf found (found ≡ stop) → Comes seen expected end
-comes_by seen stop found end expected is stop_is (inl failed) = inr (failed.0, end_of_stop found Unread end read_fault is refl failed.1)
+    → Fate seen.shelf found (stop_end found ≡ stop_end stop) → Comes seen expected end
+comes_by seen stop found end expected is stop_is (inl failed) = inr (failed.0, some_end (sym is ∙ failed.1))
 comes_by seen stop found end expected is stop_is (inr (inl memory)) = untold found end is memory
 comes_by seen stop found end expected is stop_is (inr (inr same)) = inl (end_of_stop found stop end expected is stop_is same)
 
 -- a stop for which there is no cause
 comes_failed : (seen : InputsSeen) (found : Stop) (end expected : End) → stop_end found ≡ Some end → Fate seen.shelf found ⊥
     → Comes seen expected end
-comes_failed seen found end expected is (inl failed) = inr (failed.0, end_of_stop found Unread end read_fault is refl failed.1)
+comes_failed seen found end expected is (inl failed) = inr (failed.0, some_end (sym is ∙ failed.1))
 comes_failed seen found end expected is (inr (inl memory)) = untold found end is memory
 comes_failed seen found end expected is (inr (inr none)) = absurd none
 
@@ -59,9 +59,9 @@ module _ (seen : InputsSeen) (tells : seen.shelf.tells ≡ true) (script journal
 
   -- ## Where it has to stop
 
-  -- why it stops is one
+  -- what it tells of why it stops is one
   refuse_stops : (n : ℕ) (stop found : Stop) → MustRefuse seen.shelf.before.content script journal stop
-      → StopsCheck seen.shelf script journal n found → Fate seen.shelf found (found ≡ stop)
+      → StopsCheck seen.shelf script journal n found → Fate seen.shelf found (stop_end found ≡ stop_end stop)
   refuse_stops n stop found (refuse_at_script no_script) (at_script why one) =
       fate_map seen.shelf found (λ is. one_stop seen.shelf.before.content script found stop is no_script) (script_stops seen.shelf tells script found why)
   refuse_stops n stop found (refuse_at_script no_script) (at_journal other plan_is why two) =
@@ -153,8 +153,8 @@ module _ (seen : InputsSeen) (tells : seen.shelf.tells ≡ true) (script journal
     is_refused other found end at (inl failed) = absurd (works failed.0)
     is_refused other found end at (inr (inl memory)) = untold found end at memory
     is_refused other found end at (inr (inr (no_journal_unloaded is))) = absurd (no_both holds is)
-    is_refused other found end at (inr (inr (no_journal_refused line_text line held fault stop_is))) =
-        inr (ap (λ (e : End). e.status) (end_of_stop found (Journal line) end (no_journal_end line) at refl stop_is))
+    is_refused other found end at (inr (inr (no_journal_refused line_text line cause held fault stop_is))) =
+        inr (ap (λ (e : End). e.status) (some_end (sym at ∙ ap stop_end stop_is)))
 
     pub is_judged : (n : ℕ) (end : End) → CheckEnds seen.shelf script journal n end → Judged end
     is_judged n end (stopped found (at_script why one) at) =

@@ -30,6 +30,7 @@ use Rattle.gcd_run.specs.Statuses.StopsAt.{of_run, of_check, of_front}
 use Rattle.gcd_commands.specs.declared.status.Status.{Status}
 use Rattle.gcd_commands.specs.declared.status.Status.TheVariants.{Drained, Stuck, NoCommand, ScriptRefused, Misused, Unread, CutOff, NoMemory, Full, JournalRefused, NoIntake}
 use Rattle.gcd_commands.specs.declared.stop.Stop.{Stop}
+use Rattle.gcd_script.specs.Causes.{cause_code}
 use Rattle.gcd_commands.specs.declared.stop.Stop.TheVariants.{Unread as CantRead, Script, Journal, NoIntake as LacksIntake, Memory}
 use Rattle.gcd_run.specs.declared.ended.Ended.{Ended}
 use Rattle.gcd_commands.proofs.Pages.{pages_kept}
@@ -106,12 +107,14 @@ module _ (seen : InputsSeen) (sink : Seen SinkState) (words : List Bytes) (resul
 
     -- a stop says why
     says_stop : (stop : Stop) (end : End) → StopsAt seen words calls stop → stop_end stop ≡ Some end → Written end
-    says_stop CantRead end why is =
-        subst Written (some_end is) (λ took answers. inr (stopped_by CantRead read_fault refl why took answers))
-    says_stop (Script line code) end why is =
-        subst Written (some_end is) (λ took answers. (line, code, stopped_by (Script line code) (refused_end line code) refl why took answers))
-    says_stop (Journal line) end why is =
-        subst Written (some_end is) (λ took answers. inl (line, stopped_by (Journal line) (no_journal_end line) refl why took answers))
+    says_stop (CantRead line) end why is =
+        subst Written (some_end is) (λ took answers. inr (line, stopped_by (CantRead line) read_fault refl why took answers))
+    says_stop (Script line cause) end why is =
+        subst Written (some_end is)
+        (λ took answers. (line, cause, stopped_by (Script line cause) (refused_end line (cause_code cause)) refl why took answers))
+    says_stop (Journal line cause) end why is =
+        subst Written (some_end is)
+        (λ took answers. inl (line, cause, stopped_by (Journal line cause) (no_journal_end line) refl why took answers))
     says_stop LacksIntake end why is =
         subst Written (some_end is) (λ took answers. stopped_by LacksIntake no_intake_end refl why took answers)
     says_stop Memory end why is = absurd cc

@@ -10,8 +10,11 @@ use Rattle.gcd_journal.specs.Journals.{IsJournal, IsRefusedAt}
 use Rattle.gcd_journal.specs.Judged.{IsFirstBarred}
 use Rattle.gcd_outer.specs.Outside.{Bytes, ShelfFailed, Seen, SinkState, SinkFailed}
 use Rattle.gcd_script.specs.Faults.{fault_of, IsScriptOf}
-use Rattle.gcd_script.specs.Codes.{refusal_code}
-use Rattle.gcd_script.specs.declared.refusal.Refusal.TheVariants.{PastLimit}
+use Rattle.gcd_journal.specs.declared.cause.JournalCause.{JournalCause}
+use Rattle.gcd_script.specs.Causes.{cause_code}
+use Rattle.gcd_script.specs.declared.cause.Cause.{Cause}
+use Rattle.gcd_commands.specs.Checks.{long_journal}
+use Rattle.gcd_commands.specs.Loads.{long_file, long_script}
 use Rattle.gcd_words.specs.Asked.{RunAsked, request_of, run, check, big, front}
 use Rattle.gcd_commands.specs.Calls.{PollerFailed}
 use Rattle.gcd_commands.specs.End.{End, lawful_end, read_fault, stop_end, unlawful_end, usage_end}
@@ -26,30 +29,31 @@ use Rattle.gcd_run.specs.declared.ended.Ended.{Ended}
 -- ## What a content gives
 
 -- what stands under a name, within its limit
-abbrev pub within_limit : (longer : Stop) → (most : ℕ) → Option Bytes → Result Bytes Stop
-within_limit longer most None = Err CantRead
-within_limit longer most (Some bytes) = if nat_lt most (length bytes) then Err longer else Ok bytes
+-- (`line` is the line of the script that names it, or 0)
+abbrev pub within_limit : (line : ℕ) → (longer : Stop) → (most : ℕ) → Option Bytes → Result Bytes Stop
+within_limit line longer most None = Err (CantRead line)
+within_limit line longer most (Some bytes) = if nat_lt most (length bytes) then Err longer else Ok bytes
 
 -- the files, in order, up to the first that can't be loaded
 abbrev pub files_at : (content : Bytes → Option Bytes) → List FileView → Result (List Bytes) Stop
 files_at content [] = Ok []
 files_at content (file ∷ files) =
-    elim (within_limit (Script file.line (refusal_code PastLimit)) max_file_bytes (content file.path)) [
+    elim (within_limit file.line (long_file file.line) max_file_bytes (content file.path)) [
       | Ok bytes ↦ elim (files_at content files) [ Ok contents ↦ Ok (bytes ∷ contents) | Err stop ↦ Err stop ]
       | Err stop ↦ Err stop
     ]
 
 -- why the script of this name declares no plan
 pub data IsNoScript (content : Bytes → Option Bytes) (name : Bytes) (stop : Stop) : Type 0 where
-  unloaded : within_limit (Script 0 (refusal_code PastLimit)) max_script_bytes (content name) ≡ Err stop → IsNoScript content name stop
-  refused : (bytes : Bytes) (line code : ℕ)
-      → within_limit (Script 0 (refusal_code PastLimit)) max_script_bytes (content name) ≡ Ok bytes
-      → fault_of bytes ≡ Some (line, code) → stop ≡ Script line code → IsNoScript content name stop
+  unloaded : within_limit 0 long_script max_script_bytes (content name) ≡ Err stop → IsNoScript content name stop
+  refused : (bytes : Bytes) (line : ℕ) (cause : Cause)
+      → within_limit 0 long_script max_script_bytes (content name) ≡ Ok bytes
+      → fault_of bytes ≡ Some (line, cause_code cause) → stop ≡ Script line cause → IsNoScript content name stop
 
 -- the script of this name declares the plan
 pub record HoldsScript (content : Bytes → Option Bytes) (name : Bytes) (plan : PlanView) : Type 0 where
   pub bytes : Bytes
-  pub held : within_limit (Script 0 (refusal_code PastLimit)) max_script_bytes (content name) ≡ Ok bytes
+  pub held : within_limit 0 long_script max_script_bytes (content name) ≡ Ok bytes
   pub declares : IsScriptOf bytes plan
 
 -- why `run` has to stop: at the script, or at a file
@@ -68,14 +72,14 @@ pub data MustStopFront (content : Bytes → Option Bytes) (name : Bytes) (stop :
 
 -- this text stands under the name, within the limit of journals
 abbrev pub HoldsText : (content : Bytes → Option Bytes) → (name text : Bytes) → Type 0
-HoldsText content name text = within_limit (Journal 0) max_file_bytes (content name) ≡ Ok text
+HoldsText content name text = within_limit 0 long_journal max_file_bytes (content name) ≡ Ok text
 
 -- why there is no journal of the plan under this name: it can't be loaded, where line 0 is the journal as a whole; or a line of
 -- it is at fault
 pub data IsNoJournal (content : Bytes → Option Bytes) (name : Bytes) (plan : PlanView) (stop : Stop) : Type 0 where
-  unloaded : within_limit (Journal 0) max_file_bytes (content name) ≡ Err stop → IsNoJournal content name plan stop
-  refused : (text : Bytes) (line : ℕ) → HoldsText content name text → IsRefusedAt max_events plan text line → stop ≡ Journal line
-      → IsNoJournal content name plan stop
+  unloaded : within_limit 0 long_journal max_file_bytes (content name) ≡ Err stop → IsNoJournal content name plan stop
+  refused : (text : Bytes) (line : ℕ) (cause : JournalCause) → HoldsText content name text → IsRefusedAt max_events plan text line
+      → stop ≡ Journal line cause → IsNoJournal content name plan stop
 
 -- the journal of this name is one of these events
 pub record HoldsJournal (content : Bytes → Option Bytes) (name : Bytes) (plan : PlanView) (h : List Event) : Type 0 where

@@ -3,7 +3,7 @@ use Rattle.std.specs.Prelude.{◌≡◌, List, Option, Some, None}
 use Rattle.gcd_outer.specs.Outside.{Bytes, Seen, ShelfState}
 use Rattle.gcd_words.specs.Asked.{Asked, request_of, run, check, big, front}
 use Rattle.gcd_commands.specs.End.{End}
-use Rattle.gcd_commands.specs.Hands.{HandsPlan, HandsRun}
+use Rattle.gcd_commands.specs.Hands.{HandsCheck, HandsRun}
 use Rattle.gcd_commands.specs.Loads.{IsPlanOf}
 use Rattle.gcd_commands.specs.Runs.{IsLargeScript}
 use Rattle.gcd_commands.specs.declared.found.Found.{Found}
@@ -16,9 +16,9 @@ use Rattle.gcd_run.specs.declared.ended.Account.{Account}
 abbrev pub AskedHands : Seen ShelfState → Option Asked → End → Found → Type 0
 AskedHands shelf None end found = found ≡ Nothing
 AskedHands shelf (Some (run asked)) end found = HandsRun (IsPlanOf shelf asked.script) end found
-AskedHands shelf (Some (check script journal)) end found = HandsPlan (IsPlanOf shelf script) end found
+AskedHands shelf (Some (check script journal)) end found = HandsCheck (IsPlanOf shelf script) end found
 AskedHands shelf (Some (big count workers)) end found = HandsRun (IsLargeScript count) end found
-AskedHands shelf (Some (front script senders)) end found = HandsPlan (IsPlanOf shelf script) end found
+AskedHands shelf (Some (front script senders)) end found = HandsRun (IsPlanOf shelf script) end found
 
 -- what the call hands on: of what it told, what the command hands on; nothing if memory ran out
 pub data HandsOn (outside : OutsideSeen) (words : List Bytes) (result : Account) : Type 0 where

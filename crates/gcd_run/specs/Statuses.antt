@@ -12,6 +12,9 @@ use Rattle.gcd_journal.specs.Judged.{IsFirstBarred}
 use Rattle.gcd_outer.specs.Outside.{Bytes, SinkFailed, Took, TookFront}
 use Rattle.gcd_words.specs.Asked.{Asked, RunAsked, request_of, run, check, big, front}
 use Rattle.gcd_history.specs.Intake.{AcceptsOf, AcceptsNone}
+use Rattle.gcd_journal.specs.declared.cause.JournalCause.{JournalCause}
+use Rattle.gcd_script.specs.Causes.{cause_code}
+use Rattle.gcd_script.specs.declared.cause.Cause.{Cause}
 use Rattle.gcd_commands.specs.Calls.{Calls, InputsSeen, Made, only_loads, with_listen}
 use Rattle.gcd_commands.specs.Checks.{IsJournalAt, StopsCheck}
 use Rattle.gcd_commands.specs.End.{End, usage_text, read_fault, refused_end, no_journal_end, no_intake_end, run_text, large_text, lawful_text, unlawful_text}
@@ -159,15 +162,16 @@ Says outside words result Drained = Runs outside words result RunDrained ⊎ Law
 Says outside words result Stuck = Runs outside words result RunStuck
 Says outside words result NoCommand = IsUsage outside words result
 Says outside words result ScriptRefused =
-    (line code : ℕ) × Stopped outside words result (Script line code) (refused_end line code)
+    (line : ℕ) × (cause : Cause) × Stopped outside words result (Script line cause) (refused_end line (cause_code cause))
 Says outside words result Misused = Runs outside words result RunMisused
 Says outside words result Unread =
-    Runs outside words result RunHalted ⊎ Stopped outside words result CantRead read_fault
+    Runs outside words result RunHalted ⊎ ((line : ℕ) × Stopped outside words result (CantRead line) read_fault)
 Says outside words result CutOff = IsCutOff outside words result
 Says outside words result NoMemory = IsWanting outside.sink result
 Says outside words result Full = Runs outside words result RunLive
 Says outside words result JournalRefused =
-    ((line : ℕ) × Stopped outside words result (Journal line) (no_journal_end line)) ⊎ Unlawful outside words result
+    ((line : ℕ) × (cause : JournalCause) × Stopped outside words result (Journal line cause) (no_journal_end line))
+    ⊎ Unlawful outside words result
 Says outside words result NoIntake = Stopped outside words result LacksIntake no_intake_end
 
 -- what the status of the answer says

@@ -20,6 +20,7 @@ pub struct Ended {
 pub struct Account {
     /// What the call answers.
     pub ended: Ended,
-    /// The plan and the machine that the call made. A run's machine stands for the journal.
+    /// The plan of the script, and the machine that stands for the journal, or for the events of it before the first that is not permitted;
+    /// if the call stopped, its cause.
     pub found: Found,
 }

@@ -3,7 +3,7 @@
 //! | part | what it does |
 //! |---|---|
 //! | [`gcd_main`] | does what the words ask for, and answers [`Ended`]: the number of its status, the journal, and where a script or a journal is refused the place |
-//! | [`account_of`] | does the same, and hands on what it found out: the plan of the script, and the machine that stands for a run's journal ([`Account`], [`Found`]) |
+//! | [`account_of`] | does the same, and hands on what it found out: the plan of the script and the machine that stands for the journal, or the cause of a refusal ([`Account`], [`Found`]) |
 //! | [`Status`] | the ways to end by name, each with its number (`Status::code`) |
 //!
 //! The words are read (`gcd_words`), the command that they name is done (`gcd_commands`: `run`, `check`, `big` or `front`), and the text
@@ -20,7 +20,7 @@
 //! | `says` (`StatusSays`) | each status promises its case of `Says`. After Drained, Stuck, Misused, Full, and Unread with a Halt, the script declares a valid plan, and the call loaded the script and each file once. The journal is a lawful run of the plan, has at most `--most` events, and has ended in the state of the status (Full: it has `--most` events, and could go on). With one worker, each event of a worker is its choice at that place. The journal records what clock and poller said. The sink took the journal, if it was requested, and the report, which gives each block's value over the loaded bytes. The run of a script keeps the rules of strips and block objects (`KeepsPages`). In a run of `front`, each accepted job is a sender's, and the jobs of each sender are accepted in its order. An ended block of the intake has the value of its job. If the run has come to rest, all jobs of each sender are accepted (`RunsBeside`, `HearsSenders`) |
 //! | `always` (`Always`) | what has to be told, a fault of the outside and out of memory aside: the usage line where the words name no command; where a shelf that tells gives cause to stop at a script, a file of it or a journal, that cause; of a journal that `check` reads, that its events are lawful and their state, or the first that is not permitted; that a script of `front` without an intake has none; and if nothing stands in the way, a run comes to its end, and a check to 0 or 9 |
 //! | `named` | words that name a command, and that the parser takes, are never answered by the usage line |
-//! | `found` of `account_of` (`HandsOn`) | what `run` and `big` hand on if they do not stop: the plan that ran, and a machine that stands for the journal of the answer; what `check` and `front` hand on: the plan of the script |
+//! | `found` of `account_of` (`HandsOn`) | `run`, `big` and `front` hand on the plan that ran, and a machine that stands for the journal of the answer; `check` hands on the plan, and a machine that stands for the journal, or for its events before the first that is not permitted. A command that stops hands on what its stop says: the cause of a refused script is of the code that is told, and its line is the one that is told; the line of a file that cannot be read |
 //!
 //! So what is proved of lawful histories of valid plans (`laws` of `gcd_history`) holds of the journal: blocks of one serial
 //! queue never overlap.

@@ -107,8 +107,9 @@ pub fn gcd_main<R: Threads + Wait + Sync, S: Shelf, K: Sink, P: Poller + Send, C
     account_of(rt, alloc, words, shelf, out, poller, clock).ended
 }
 
-/// Does what [`gcd_main`] does, and hands on what it found out: the plan of the script that was read, and the machine that stands for the
-/// journal of a run. Whoever tells why a run ended need not parse, run or replay anything again.
+/// Does what [`gcd_main`] does, and hands on what it found out: the plan of the script, and the machine that stands for the journal, or, if an
+/// event of a journal is not permitted, for those before it. Of a refused script or journal it hands on the cause that the parser or the
+/// reader told, and of a file that cannot be read the script's line. So no caller parses, reads or replays anything again to tell why.
 pub fn account_of<R: Threads + Wait + Sync, S: Shelf, K: Sink, P: Poller + Send, C: Clock + Send>(
     rt: &R,
     alloc: Global,

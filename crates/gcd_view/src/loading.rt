@@ -1,21 +1,22 @@
 // The plan of a script, and a lawful journal of it.
 ghost use Rattle.std.specs.Prelude.{◌≡◌, ◌≤◌, length, IfOk, IfSome};
 ghost use Rattle.gcd_plan.specs.Limits.{max_events, max_script_bytes};
-ghost use Rattle.gcd_journal.specs.Judged.{IsLawfulWith};
+ghost use Rattle.gcd_history.specs.History.{IsLawful};
+ghost use Rattle.gcd_machine.specs.Stands.{StandsFor};
 ghost use Rattle.gcd_view.specs.Loads.{IsLoaded, IsScript, IsJournalAt};
 
 use crate::request::Request;
 use crate::stop::Stop;
 use gcd_event::Entry;
-use gcd_history::State;
-use gcd_journal::{CheckFault, JournalCause, JournalFault, check, read_journal};
+use gcd_journal::{JournalCause, JournalFault, judge, read_journal};
+use gcd_machine::Machine;
 use gcd_outer::{LoadFault, Shelf};
 use gcd_plan::{MAX_EVENTS, MAX_FILE_BYTES, MAX_SCRIPT_BYTES, Plan};
 use gcd_script::{Cause, Limit, ParseFault, parse};
-use gcd_why::{why_event, why_journal, why_script};
+use gcd_why::{Judged, why_event, why_journal, why_script};
 use std::alloc::{AllocError, Global};
 
-/// A journal to be shown: the script's text and its plan, the events, and the state to which they have come.
+/// A journal to be shown: the script's text and its plan, the events, and the machine that stands for them.
 #[derive(Drop)]
 pub struct Loaded {
     /// The script's text.
@@ -24,8 +25,8 @@ pub struct Loaded {
     pub plan: Plan,
     /// The events of the journal.
     pub events: Vec<Entry>,
-    /// The state to which they have come.
-    pub state: State,
+    /// The machine that stands for them.
+    pub machine: Machine,
 }
 
 // What is under the name, whole. None if it has more than `most` bytes.
@@ -76,11 +77,9 @@ fn refused_journal<'a>(
     }
 }
 
-// That an event of the journal is not permitted.
-fn refused_event<'a>(alloc: Global, plan: &Plan, name: &'a str, events: &[Entry]) -> Stop<'a>
-    requires { length events.now ≤ max_events }
-{
-    match why_event(alloc, plan, name, events) {
+// That the event of the journal at the index is not permitted.
+fn refused_event<'a>(alloc: Global, judged: Judged, name: &'a str) -> Stop<'a> {
+    match why_event(alloc, judged, name) {
         Ok(Some(said)) => Stop::Journal(said.sentence),
         Ok(None) | Err(AllocError) => Stop::Memory,
     }
@@ -119,7 +118,7 @@ fn load_journal<'a, S: Shelf>(
     ensures few { IfOk result (λ events. length events.items ≤ max_events) }
 {
     let Some(text) = load_whole(alloc, shelf, name, MAX_FILE_BYTES)? else {
-        return Err(refused_journal(alloc, name, b"".as_slice(), 0, JournalCause::NoForm));
+        return Err(refused_journal(alloc, name, b"".as_slice(), 0, JournalCause::TooLong));
     };
     match read_journal(alloc, plan, MAX_EVENTS, &text) {
         Ok(events) => Ok(events),
@@ -130,20 +129,36 @@ fn load_journal<'a, S: Shelf>(
     }
 }
 
-// The state to which the events have come, where each is permitted where it stands.
-fn judge<'a>(alloc: Global, plan: &Plan, name: &'a str, events: &[Entry]) -> Result<State, Stop<'a>>
+// The machine that stands for the events, where each is permitted where it stands.
+fn judge_events<'a>(
+    alloc: Global,
+    plan: &Plan,
+    name: &'a str,
+    events: &[Entry],
+) -> Result<Machine, Stop<'a>>
     requires { length events.now ≤ max_events }
-    ensures { IfOk result (IsLawfulWith plan.now events.now) }
+    ensures lawful { IfOk result (λ machine. IsLawful plan.now events.now) }
+    ensures stands { IfOk result (λ machine. StandsFor machine plan.now events.now) }
 {
-    match check(alloc, plan, events) {
-        Ok(state) => Ok(state),
-        Err(CheckFault::Unlawful { .. }) => Err(refused_event(alloc, plan, name, events)),
-        Err(CheckFault::Memory) => Err(Stop::Memory),
+    let Ok(mut machine) = Machine::new(alloc, plan) else {
+        return Err(Stop::Memory);
+    };
+    match judge(plan, &mut machine, events) {
+        None => Ok(machine),
+        Some(index) => {
+            let judged = Judged {
+                plan,
+                machine: &machine,
+                events,
+                index,
+            };
+            Err(refused_event(alloc, judged, name))
+        }
     }
 }
 
 /// Loads the script and reads its plan, and then loads the journal, reads it and judges its events. The plan is the one that the
-/// script's text declares, the events are those of the journal's text, and lawful in the plan, and the state is theirs; the two
+/// script's text declares, the events are those of the journal's text, and lawful in the plan, and the machine stands for them; the two
 /// texts are what stands under the two names of the request, where the shelf tells what it holds. Else it says why it stopped at one
 /// of these steps, in the words of `gcd check`.
 pub fn load_run<'a, S: Shelf>(
@@ -153,16 +168,17 @@ pub fn load_run<'a, S: Shelf>(
 ) -> Result<Loaded, Stop<'a>>
     ensures script { IfOk result (λ r. IsScript S.tells (S.state shelf.old).content request.entry.script.now r.script.items r.plan) }
     ensures journal { IfOk result (λ r. IsJournalAt S.tells (S.state shelf.old).content request.entry.journal.now r.plan r.events.items) }
-    ensures judged { IfOk result (λ r. IsLawfulWith r.plan r.events.items r.state) }
+    ensures lawful { IfOk result (λ r. IsLawful r.plan r.events.items) }
+    ensures stands { IfOk result (λ r. StandsFor r.machine r.plan r.events.items) }
     ensures few { IfOk result (λ r. length r.events.items ≤ max_events) }
 {
     let (script, plan) = load_plan(alloc, shelf, request.script)?;
     let events = load_journal(alloc, &plan, shelf, request.journal)?;
-    let state = judge(alloc, &plan, request.journal, &events)?;
+    let machine = judge_events(alloc, &plan, request.journal, &events)?;
     Ok(Loaded {
         script,
         plan,
         events,
-        state,
+        machine,
     })
 }

@@ -1,7 +1,7 @@
 // What is shown of a run, and what is said beside it.
 ghost use Rattle.std.specs.Prelude.{◌≤◌, length};
 ghost use Rattle.gcd_plan.specs.Limits.{max_events};
-ghost use Rattle.gcd_journal.specs.Judged.{IsLawfulWith};
+ghost use Rattle.gcd_history.specs.History.{IsLawful};
 
 use crate::loading::{Loaded, load_run};
 use crate::request::Request;
@@ -11,7 +11,7 @@ use gcd_outer::Shelf;
 use gcd_picture::{Note, ScriptLines, Showing, svg, trace};
 use gcd_plan::MAX_EVENTS;
 use gcd_timeline::{marks, standings};
-use gcd_why::{Sentence, why_run};
+use gcd_why::{RunEnd, Sentence, why_ended};
 use std::alloc::{AllocError, Global};
 
 /// The picture or the trace of a run, and why the run has come to its state.
@@ -53,7 +53,7 @@ fn picture(
     said: &[Sentence],
     is_trace: bool,
 ) -> Result<String, AllocError>
-    requires lawful { IsLawfulWith loaded.now.plan loaded.now.events.items loaded.now.state }
+    requires lawful { IsLawful loaded.now.plan loaded.now.events.items }
     requires few { length loaded.now.events.items ≤ max_events }
 {
     let (plan, events) = (&loaded.plan, loaded.events.as_slice());
@@ -66,7 +66,7 @@ fn picture(
         marks: marks.as_slice(),
         events,
         standings: standings.as_slice(),
-        state: state_word(loaded.state),
+        state: state_word(loaded.machine.state()),
         notes: notes.as_slice(),
         lines: &lines,
     };
@@ -84,15 +84,13 @@ pub fn show<'a, S: Shelf>(
     request: Request<'a>,
 ) -> Result<Shown<'a>, Stop<'a>> {
     let loaded = load_run(alloc, shelf, request)?;
-    let script = loaded.script.as_slice();
-    let said = why_run(
-        alloc,
-        &loaded.plan,
-        MAX_EVENTS,
-        request.script,
-        script,
-        loaded.events.as_slice(),
-    )?;
+    let end = RunEnd {
+        plan: &loaded.plan,
+        machine: &loaded.machine,
+        events: loaded.events.as_slice(),
+        most: MAX_EVENTS,
+    };
+    let said = why_ended(alloc, end, request.script, loaded.script.as_slice())?;
     let text = picture(alloc, &loaded, &said, request.is_trace)?;
     Ok(Shown { text, said })
 }

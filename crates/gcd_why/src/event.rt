@@ -1,18 +1,15 @@
 // Why an event of a journal is refused.
-ghost use Rattle.std.specs.Prelude.{◌≡◌, ◌<◌, ◌^◌, [], length, IfOk, MatchOption};
-ghost use Rattle.gcd_history.specs.History.{IsLawful};
+ghost use Rattle.std.specs.Prelude.{◌≡◌, take, IfOk, option_map};
 ghost use Rattle.gcd_machine.specs.Stands.{StandsFor};
-ghost use Rattle.gcd_why.specs.Barred.{IsBarred};
+ghost use Rattle.gcd_why.specs.Barred.{Bars};
 
-use crate::barred::{Barred, find_barred};
+use crate::barred::{Barred, Judged};
 use crate::sentence::Sentence;
 use gcd_cause::{EventWords, Scene, Sight, in_the_way};
 use gcd_event::{Entry, Event};
-use gcd_machine::Machine;
-use gcd_plan::Plan;
 use std::alloc::{AllocError, Global};
 
-/// A sentence on the first event that is not permitted, and what it says: the index, the event and the reason.
+/// A sentence on an event that is not permitted, and what it says: the index, the event and the reason.
 #[derive(Drop)]
 pub struct EventSentence<'a> {
     pub barred: Barred,
@@ -25,19 +22,37 @@ fn before(events: &[Entry], index: u32) -> Option<Event> {
     Some(events.get(place)?.event())
 }
 
+// What the events before the index have made.
+fn scene_before(alloc: Global, judged: Judged) -> Result<Scene, AllocError> {
+    let mut scene = Scene::new(alloc, judged.plan)?;
+    for (index, e) in judged.events.iter().enumerate() {
+        if index >= judged.index as usize {
+            return Ok(scene);
+        }
+        scene.take(judged.plan, e.event())?;
+    }
+    Ok(scene)
+}
+
 // The sentence of the event, at its place.
 fn say<'a>(
     alloc: Global,
     file: &'a str,
-    sight: Sight,
+    judged: Judged,
     barred: Barred,
-    last: Option<Event>,
 ) -> Result<Sentence<'a>, AllocError>
     ensures file { IfOk result (λ s. s.file.now ≡ file.now) }
 {
+    let scene = scene_before(alloc, judged)?;
+    let sight = Sight {
+        plan: judged.plan,
+        machine: judged.machine,
+        scene: &scene,
+    };
+    let last = before(judged.events, barred.index);
     let way = in_the_way(alloc, sight, barred.event, barred.reason, last)?;
     let event = EventWords {
-        plan: sight.plan,
+        plan: judged.plan,
         event: barred.event,
     };
     let (index, reason) = (barred.index, barred.reason);
@@ -45,49 +60,20 @@ fn say<'a>(
     Sentence::of(alloc, file, index.saturating_add(1), text)
 }
 
-// The same, by a machine that has taken nothing.
-fn say_by<'a>(
-    alloc: Global,
-    plan: &Plan,
-    file: &'a str,
-    events: &[Entry],
-    machine: &mut Machine,
-    scene: &mut Scene,
-) -> Result<Option<EventSentence<'a>>, AllocError>
-    requires begin { StandsFor machine.old plan.now [] }
-    requires few { length events.now < 2 ^ 32 }
-    ensures { IfOk result (λ found. MatchOption found
-        (IsLawful plan.now events.now)
-        (λ s. IsBarred plan.now events.now s.barred.index s.barred.event s.barred.reason)) }
-{
-    let Some(barred) = find_barred(plan, machine, scene, events)? else {
-        return Ok(None);
-    };
-    let sight = Sight {
-        plan,
-        machine,
-        scene,
-    };
-    let last = before(events, barred.index);
-    let sentence = say(alloc, file, sight, barred, last)?;
-    Ok(Some(EventSentence { barred, sentence }))
-}
-
-/// Says why the first event that is not permitted may not come: on its line of the journal, which is one more than its index, with
-/// the reason that the definitions give it at that place (`why`), and what is in the way. None exactly where each event is
-/// permitted. An `Err` comes only where memory runs out.
+/// Says why an event of a journal may not come: on its line of the journal, which is one more than its index, with the reason that
+/// the definitions give it at that place (`why`), and what is in the way. None exactly where the journal has no such event, or where it
+/// is permitted. The machine takes no step. An `Err` comes only where memory runs out.
 pub fn why_event<'a>(
     alloc: Global,
-    plan: &Plan,
+    judged: Judged,
     file: &'a str,
-    events: &[Entry],
 ) -> Result<Option<EventSentence<'a>>, AllocError>
-    requires few { length events.now < 2 ^ 32 }
-    ensures { IfOk result (λ found. MatchOption found
-        (IsLawful plan.now events.now)
-        (λ s. IsBarred plan.now events.now s.barred.index s.barred.event s.barred.reason)) }
+    ensures { StandsFor judged.entry.machine.now judged.entry.plan.now (take judged.entry.index judged.entry.events.now)
+        → IfOk result (λ said. Bars judged.entry.plan.now judged.entry.events.now judged.entry.index (option_map (λ s. s.barred) said)) }
 {
-    let mut scene = Scene::new(alloc, plan)?;
-    let mut machine = Machine::new(alloc, plan)?;
-    say_by(alloc, plan, file, events, &mut machine, &mut scene)
+    let Some(barred) = judged.barred() else {
+        return Ok(None);
+    };
+    let sentence = say(alloc, file, judged, barred)?;
+    Ok(Some(EventSentence { barred, sentence }))
 }

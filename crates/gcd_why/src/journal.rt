@@ -3,12 +3,11 @@ ghost use Rattle.std.specs.Prelude.{◌≡◌, IfOk};
 
 use crate::sentence::Sentence;
 use gcd_cause::cause_of_journal;
-use gcd_journal::{JournalCause, JournalFault, read_journal};
-use gcd_plan::Plan;
+use gcd_journal::JournalCause;
 use std::alloc::{AllocError, Global};
 
 /// Says why a text, under this name, is no journal, of at most `most` events, at that line with that cause. Line 0 is the text as a
-/// whole, and its cause is not looked at. An `Err` comes only where memory runs out.
+/// whole. An `Err` comes only where memory runs out.
 pub fn why_journal<'a>(
     alloc: Global,
     most: u32,
@@ -21,19 +20,4 @@ pub fn why_journal<'a>(
     ensures line { IfOk result (λ s. s.line ≡ line) }
 {
     Sentence::of(alloc, file, line, cause_of_journal(text, most, line, cause))
-}
-
-/// Returns the cause for which a text is no journal of the plan, of at most `most` events, for callers that were told the line alone. It
-/// reads the text again. An `Err` comes only where memory runs out.
-pub fn journal_cause(
-    alloc: Global,
-    plan: &Plan,
-    most: u32,
-    text: &[u8],
-) -> Result<JournalCause, AllocError> {
-    match read_journal(alloc, plan, most, text) {
-        Ok(_) => Ok(JournalCause::NoForm),
-        Err(JournalFault::Refused { cause, .. }) => Ok(cause),
-        Err(JournalFault::Memory) => Err(AllocError),
-    }
 }

@@ -1,7 +1,5 @@
 // Why a run ended as it did.
-ghost use Rattle.std.specs.Prelude.{◌<◌, ◌^◌, length};
 
-use crate::barred::find_barred;
 use crate::noting::{Left, MAX_SAID, may_have_notes, notes};
 use crate::sentence::Sentence;
 use gcd_cause::{ActWords, Blame, Place, Places, Scene, Sight, act_at, code_name, misuse_words};
@@ -282,31 +280,5 @@ pub fn why_ended<'a>(
     for e in end.events {
         scene.take(end.plan, e.event())?;
     }
-    end.said(alloc, file, text, &scene)
-}
-
-/// Says what [`why_ended`] says of a run of which the events alone are known: a machine takes them first. Of events that are not lawful it
-/// says nothing. Returns `Err` only if memory runs out.
-pub fn why_run<'a>(
-    alloc: Global,
-    plan: &Plan,
-    most: u32,
-    file: &'a str,
-    text: &[u8],
-    events: &[Entry],
-) -> Result<Vec<Sentence<'a>>, AllocError>
-    requires few { length events.now < 2 ^ 32 }
-{
-    let mut scene = Scene::new(alloc, plan)?;
-    let mut machine = Machine::new(alloc, plan)?;
-    if find_barred(plan, &mut machine, &mut scene, events)?.is_some() {
-        return Ok(Vec::new(alloc));
-    }
-    let end = RunEnd {
-        plan,
-        machine: &machine,
-        events,
-        most,
-    };
     end.said(alloc, file, text, &scene)
 }

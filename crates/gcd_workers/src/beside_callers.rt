@@ -3,6 +3,7 @@ ghost use Rattle.std.specs.Thread.{IsSend, IsSync};
 ghost use Rattle.std.specs.Prelude.{◌≡◌, ◌<◌, ◌≤◌, ℕ, false, IfOk, IsErrOf, length, vec_capacity};
 ghost use Rattle.gcd_front.specs.Fronts.{IsIntakeOf};
 ghost use Rattle.gcd_front.specs.Limits.{max_senders};
+ghost use Rattle.gcd_machine.specs.Stands.{StandsFor};
 ghost use Rattle.gcd_plan.specs.Limits.{max_workers};
 ghost use Rattle.gcd_outer.specs.Outside.{seen};
 ghost use Rattle.gcd_turn.specs.Asked.{KeepsListens};
@@ -66,6 +67,7 @@ impl<'a, J: Job + Drop + Send> Given<'a, J> {
         requires new { AreNew front.now ends.old.mouths.items ends.old.lefts.items (vec_capacity ends.old.lefts) }
         ensures ran { IfOk result (RunsFront J.gives X.gives self.old.dispatch front.now ends.new.intake
             (seen P.tells P.state poller.old poller.new) (seen C.tells C.state clock.old clock.new)) }
+        ensures stands { IfOk result (λ run. StandsFor run.machine self.old.dispatch.plan.now run.journal.items) }
         ensures intake { IfOk result (λ _. IsIntakeOf front.now ends.new.intake) }
         ensures called { HaveCalled (K.called callers.old callers.new) front.now ends.new.lefts.items }
         ensures kept { KeepsListens P.tells (P.state poller.old) (P.state poller.new) }
@@ -83,6 +85,7 @@ impl<'a, J: Job + Drop + Send> Given<'a, J> {
                     (seen P.tells P.state poller.entry.now poller.exit.now) (seen C.tells C.state clock.entry.now clock.exit.now))
                     × IfOk result (λ _. IsIntakeOf front.entry.now intake.exit.now)
                     × KeepsListens P.tells (P.state poller.entry.now) (P.state poller.exit.now)
+                    × IfOk result (λ run. StandsFor run.machine self.entry.now.dispatch.plan.now run.journal.items)
                     × (IsErrOf result RunRefused.BeforeTheRun → (poller.exit.now ≡ poller.entry.now) × (clock.exit.now ≡ clock.entry.now)) }
             {
                 self.take()
@@ -116,7 +119,8 @@ impl<J: Job + Drop + Send> Dispatch<'_, J> {
     /// they sent. So callers must not wait for a value, and must stop sending at some time. Returns when both have ended.
     ///
     /// The mouths are shut when [`Callers::call`] returns. The run waits for that, unless each block of the intake has a job before. Whatever
-    /// the callers promise of the jobs that they send holds of the jobs that were taken (`ran`). Tests show, and no clause says, that a front
+    /// the callers promise of the jobs that they send holds of the jobs that were taken (`ran`). The machine of the result stands for its
+    /// journal (`stands`). Tests show, and no clause says, that a front
     /// with room accepts a job, and that each job is run if the run does not end early. A job that is sent beyond the room is refused, or
     /// accepted and never run.
     ///
@@ -147,6 +151,7 @@ impl<J: Job + Drop + Send> Dispatch<'_, J> {
         requires unwatched { (feed : ℕ) → (P.state poller.old).watched feed ≡ false }
         ensures ran { IfOk result (RunsBeside J.gives X.gives (K.called callers.old callers.new) self.entry senders
             (met P.Poller poller.old poller.new C.Clock clock.old clock.new)) }
+        ensures stands { IfOk result (λ run. StandsFor run.machine self.entry.plan.now run.journal.items) }
         ensures kept { KeepsListens P.tells (P.state poller.old) (P.state poller.new) }
         ensures before { IsErrOf result RunRefused.BeforeTheRun → (poller.new ≡ poller.old) × (clock.new ≡ clock.old) }
     {

@@ -2,7 +2,7 @@ use Rattle.std.proofs.Common.{refl, arith}
 use Rattle.gcd_plan.specs.Limits.{max_file_bytes}
 use Rattle.gcd_outer.specs.Outside.{Seen, ShelfState, seen}
 use Rattle.gcd_commands.specs.Checks.CheckEnds.{judged}
-use Rattle.gcd_commands.specs.Hands.HandsPlan.{read as hands_plan}
+use Rattle.gcd_commands.specs.Hands.HandsCheck.{judged as hands_judged}
 use Rattle.gcd_commands.specs.Checks.StopsCheck.{at_script, at_journal}
 use Rattle.gcd_commands.specs.Checks.StopsJournal.{wanting}
 use Rattle.gcd_builder.proofs.Refused.{handed_on}
@@ -61,7 +61,7 @@ returns-in-Ok-clause-found g c =
     let first = between before c.load_plan.new.shelf in
     let whole = between before c.load_journal.new.shelf in
     let same_first : SameShelf first whole = record { tells = refl; content = refl } in
-    hands_plan c.in_ok-plan.plan
+    hands_judged c.in_ok-plan.plan
     (plan_since first whole same_first (omega arith) (omega (arith, c.load_journal.ensures.faults)) _ c.in_ok-plan.plan c.in_ok-plan.ensures.plan)
     c.in-Ok.ensures.found
 

@@ -1,6 +1,6 @@
 use Rattle.std.proofs.lemmas.Result.{IfOk-weaker}
 use Rattle.gcd_commands.specs.Checks.CheckEnds.{stopped}
-use Rattle.gcd_commands.proofs.Hands.{stopped_plan}
+use Rattle.gcd_commands.proofs.Hands.{stopped_check}
 use Rattle.gcd_commands.proofs.Loading.{on_any_err}
 use Rattle.gcd_commands.proofs.Stories.{stops_count}
 use Rattle.gcd_commands.proofs.checking.tell_check.Goals as goal
@@ -16,4 +16,4 @@ returns-in-Err-clause-wanting g c =
     on_any_err c.stopped.result (record { loads = why.loads; made = why.made; is = stops_count _ _ _ why.loads c.in-Err.stop why.is })
 
 pub returns-in-Err-clause-found : goal.returns-in-Err-clause-found
-returns-in-Err-clause-found g c = stopped_plan _ c.in-Err.stop c.stopped.result c.stopped.ensures.told c.stopped.ensures.found
+returns-in-Err-clause-found g c = stopped_check _ c.in-Err.stop c.stopped.result c.stopped.ensures.told c.stopped.ensures.found

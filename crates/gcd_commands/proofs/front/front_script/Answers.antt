@@ -1,6 +1,6 @@
 use Rattle.std.proofs.Common.{◌+◌, map, length, refl}
 use Rattle.gcd_commands.specs.Fronts.FrontEnds.{ran}
-use Rattle.gcd_commands.specs.Hands.HandsPlan.{read as hands_plan}
+use Rattle.gcd_commands.specs.Hands.HandsRun.{ran as hands_run}
 use Rattle.gcd_commands.specs.Fronts.StopsFront.{wanting}
 use Rattle.gcd_builder.proofs.Refused.{handed_on}
 use Rattle.gcd_commands.proofs.front.front_script.Goals as goal
@@ -20,7 +20,7 @@ returns-in-Ok-clause-told g c =
     }
 
 pub returns-in-Ok-clause-found : goal.returns-in-Ok-clause-found
-returns-in-Ok-clause-found g c = hands_plan c.in_ok-plan.plan c.in_ok-plan.ensures.ready.plan_is c.in-Ok.ensures.found
+returns-in-Ok-clause-found g c = hands_run c.in_ok-plan.plan c.in_ok-plan.ensures.ready.plan_is c.in-Ok.ensures.found
 
 pub returns-clause-stopped : goal.returns-clause-stopped
 returns-clause-stopped g c =

@@ -1,4 +1,6 @@
+use Rattle.std.proofs.Common.{refl}
 use Rattle.gcd_journal.proofs.LawfulSpoken.{lawful_spoken}
+use Rattle.gcd_commands.proofs.Hands.{run_of}
 use Rattle.gcd_commands.specs.Fronts.{value_or_0}
 use Rattle.gcd_commands.proofs.front.run_plan.Goals as goal
 
@@ -20,3 +22,8 @@ returns-clause-told g c = λ intake is.
       tells = record { h = run.journal.items; state = run.state; ran = ran.ran; end_is = c.in_ok-story.ensures.told };
       hears = ran.hears intake is;
     }
+
+pub returns-clause-found : goal.returns-clause-found
+returns-clause-found g c =
+    let run = c.in_ok-run.run' in
+    run_of c.args.plan run.machine run.journal.items _ c.in_ok-story.story c.in_ok-story.ensures.told refl c.in_ok-run.ensures.stands c.in_ok-story.ensures.found

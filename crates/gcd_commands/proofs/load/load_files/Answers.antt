@@ -14,12 +14,12 @@ loop-file-preserved g c =
     let between : g.row.S.Denot → g.row.S.Denot → Seen ShelfState = seen g.S.Shelf.tells g.S.Shelf.state in
     let before = c.args.shelf.now in
     let one = loaded_same (between c.loop-file.shelf c.load_whole.new.shelf) (between before before)
-    (record { tells = refl; content = c.loop-file.invariant.same }) c.as_str.result.now max_file_bytes c.in_ok-bytes.bytes.items c.in_ok-bytes.ensures.loaded in
+    (record { tells = refl; content = c.loop-file.invariant.same }) c.as_str-path.result.now max_file_bytes c.in_ok-bytes.bytes.items c.in_ok-bytes.ensures.loaded in
     record {
       same = search rules;
       loaded = loaded_more (between before before) c.args.files.now c.loop-file.file-index c.file-item.result c.loop-file.contents.items
           c.push.new.self.items c.in_ok-bytes.bytes (search rules) c.file-item.is (search rules) c.loop-file.invariant.loaded
-          (rw c.as_str.ensures.value at one);
+          (rw c.as_str-path.ensures.value at one);
       faults = search rules;
       loads = λ tells. c.load_whole.ensures.loads tells ∙ ap next_count (c.loop-file.invariant.loads tells)
           ∙ count_more c.loop-file.file-index (g.S.Shelf.state before).loads;
@@ -44,7 +44,7 @@ returns-in_err-bytes-clause-stopped g c =
     let stops : StopsFile one (map file_view c.args.files.now) c.loop-file.file-index stop = record {
       file = file_view c.file-item.result;
       next = next_file one c.args.files.now c.loop-file.file-index c.file-item.result c.loop-file.contents.items (search rules) c.file-item.is loaded;
-      unloaded = rw (c.as_str.ensures.value, c.code.ensures) at c.in_err-bytes.ensures.stopped;
+      unloaded = rw (c.as_str-path.ensures.value) at c.in_err-bytes.ensures.stopped;
     } in
     let all : StopsFiles whole (map file_view c.args.files.now) stop = record {
       f = c.loop-file.file-index;

@@ -6,7 +6,7 @@ use Rattle.gcd_event.specs.declared.event.Event.{Event}
 use Rattle.gcd_history.specs.History.{why}
 use Rattle.gcd_machine.specs.Stands.{StandsFor}
 use Rattle.gcd_machine.proofs.Views.Calls.{lawful_stands}
-use Rattle.gcd_journal.proofs.checker.judged.Goals as goal
+use Rattle.gcd_journal.proofs.checker.judge.Goals as goal
 
 pub apply-requires : goal.apply-requires
 apply-requires c =
@@ -31,23 +31,25 @@ loop-index-preserved c =
     (ap (λ (e : Event). h ++ e ∷ []) (c.event-event.ensures.exact ∙ c.index-events-index.is) ∙ sym (take_more c.args.events.now c.loop-index.index _ c.loop-index-test.true))
     (c.apply.ensures.stands plan h c.loop-index.invariant none)
 
-pub returns-then-is_some-clause-fault : goal.returns-then-is_some-clause-fault
-returns-then-is_some-clause-fault c =
+pub returns-then-is_some : goal.returns-then-is_some
+returns-then-is_some c =
     let plan = c.args.plan.now in
-    let h = take c.loop-index.index c.args.events.now in
-    record {
-      event = get_or c.args.events.now c.loop-index.index _;
-      there = slice_get-get_or c.args.events.now c.loop-index.index _ c.loop-index-test.true;
-      front = lawful_stands c.loop-index.machine plan h c.loop-index.invariant;
-      barred =
-          subst (λ (e : Event). is_some (why plan h e) ≡ true) (c.event-event.ensures.exact ∙ c.index-events-index.is)
-          (ap is_some (sym (c.permits.ensures plan h c.loop-index.invariant)) ∙ sym c.is_some.ensures ∙ c.if-is_some.true);
-    }
+    let h = take c.loop-index.index c.args.events.now in (
+      record {
+        event = get_or c.args.events.now c.loop-index.index _;
+        there = slice_get-get_or c.args.events.now c.loop-index.index _ c.loop-index-test.true;
+        front = lawful_stands c.loop-index.machine plan h c.loop-index.invariant;
+        barred =
+            subst (λ (e : Event). is_some (why plan h e) ≡ true) (c.event-event.ensures.exact ∙ c.index-events-index.is)
+            (ap is_some (sym (c.permits.ensures plan h c.loop-index.invariant)) ∙ sym c.is_some.ensures ∙ c.if-is_some.true);
+      },
+      c.loop-index.invariant,
+    )
 
-pub returns-clause-lawful : goal.returns-clause-lawful
-returns-clause-lawful c =
+pub returns : goal.returns
+returns c =
     let plan = c.args.plan.now in
     let h = take c.loop-index.index c.args.events.now in
     let all : h ≡ c.args.events.now = take_all c.loop-index.index c.args.events.now c.loop-index-test.false in
     let stands = subst (StandsFor c.loop-index.machine plan) all c.loop-index.invariant in
-    record { lawful = lawful_stands c.loop-index.machine plan c.args.events.now stands; state_is = c.state.ensures plan c.args.events.now stands }
+    (lawful_stands c.loop-index.machine plan c.args.events.now stands, stands)
