@@ -3,7 +3,7 @@
 #
 # - the large script that `gcd big` runs: 16,384 blocks that add up 64 bytes each, on six queues. It is run by worker 0 alone over a list,
 #   by at most 2, 4 and 64 workers, of whom `run_workers` takes as many as pay, and as jobs of a caller by 1, 2 and 4 workers, which
-#   `Dispatch::run` makes whether they pay or not: one keeps a list, more share the log. Peers that keep a journal (bench/peers) run a script of this shape, if they are
+#   `JobsInput::run` makes whether they pay or not: one keeps a list, more share the log. Peers that keep a journal (bench/peers) run a script of this shape, if they are
 #   installed: oneTBB, Boost.Asio and rayon (Debian's libtbb-dev, libboost-dev, and librust-rayon-dev with cargo);
 # - the large script with more bytes a block, at which workers may cost no more than one;
 # - 16,384 blocks of 16 KiB each on 64 serial queues, and on one concurrent queue; and 64 blocks of 16 MiB each on a concurrent queue.

@@ -26,7 +26,7 @@ use Rattle.gcd_front.specs.Fronts.{IsTakenOf}
 use Rattle.gcd_front.specs.Queue.{jobs_of}
 use Rattle.gcd_front.specs.Views.{IntakeView as TakenView}
 use Rattle.gcd_history.specs.Intake.{AcceptsOf, blocks_of_sender}
-use Rattle.gcd_workers.specs.declared.dispatch.Dispatch.{Dispatch}
+use Rattle.gcd_workers.specs.declared.jobs_input.JobsInput.{JobsInput}
 use Rattle.gcd_workers.specs.declared.ran.Ran.{Ran as Left}
 use Rattle.gcd_commands.specs.Fronts.{HasIntake, HearsSenders, RanBeside, value_or_0}
 use Rattle.gcd_commands.specs.Senders.{HasRun, told, told_by}
@@ -106,7 +106,7 @@ shut_at_rest plan intake h is closed =
     let shut : not (list_any of_intake.shuts (reverse h)) ≡ false = ap (λ (c : Bool). c && not (list_any of_intake.shuts (reverse h))) (sym some) ∙ closed in
     sym (list_any-reverse of_intake.shuts h) ∙ true_from_ne_false (list_any of_intake.shuts (reverse h)) (λ no. both_ways (not (list_any of_intake.shuts (reverse h))) shut (ap not no))
 
-module _ (d : Dispatch FrontJob) (blocks senders : ℕ) (poller : Seen PollerState) (clock : Seen ClockState) (run : Left) (valid : IsPlan d.plan.now)
+module _ (d : JobsInput FrontJob) (blocks senders : ℕ) (poller : Seen PollerState) (clock : Seen ClockState) (run : Left) (valid : IsPlan d.plan.now)
     (has : HasIntake d.plan.now blocks) (workers_is : d.workers ≡ 4) (most_is : d.most ≡ max_events)
     (share : ℕ) (share_is : share ≡ blocks / senders) (has_run : HasRun d senders share poller clock run) where
   left : HasRun d senders (blocks / senders) poller clock run

@@ -7,7 +7,7 @@ use Rattle.gcd_jobs.specs.Jobs.{job_value}
 use Rattle.gcd_outer.specs.Outside.{ClockState, Seen}
 use Rattle.gcd_outer.specs.Tells.{PollerState}
 use Rattle.gcd_workers.specs.CalledRuns.{RunsBeside}
-use Rattle.gcd_workers.specs.declared.dispatch.Dispatch.{Dispatch}
+use Rattle.gcd_workers.specs.declared.jobs_input.JobsInput.{JobsInput}
 use Rattle.gcd_workers.specs.declared.ran.Ran.{Ran}
 use Rattle.gcd_commands.specs.declared.front_job.FrontJob.{FrontJob}
 use Rattle.gcd_commands.specs.declared.front_job.FrontJob.TheVariants.{File, Told as FromSender}
@@ -44,6 +44,6 @@ abbrev pub HaveSent : (share : ℕ) → List (MouthView Told) → Type 0
 HaveSent share mouths = (s : ℕ) (m : MouthView Told) → slice_get mouths s ≡ Some m → m.sent ≡ told_by s share
 
 -- what the run of what was given has left beside so many senders, each of which handed in its share of the jobs for so many blocks
-abbrev pub HasRun : (d : Dispatch FrontJob) (senders share : ℕ) → Seen PollerState → Seen ClockState → Ran → Type 0
+abbrev pub HasRun : (d : JobsInput FrontJob) (senders share : ℕ) → Seen PollerState → Seen ClockState → Ran → Type 0
 HasRun d senders share poller clock ran =
     RunsBeside (λ job input value. value ≡ front_value job) (λ told value. value ≡ told.0) (HaveSent share) d senders (record { poller = poller; clock = clock }) ran

@@ -34,7 +34,7 @@ use gcd_journal::write_last_line;
 use gcd_outer::{Clock, Poller, Shelf};
 use gcd_plan::{Blk, MAX_EVENTS, Plan};
 use gcd_words::FrontRequest;
-use gcd_workers::{Dispatch, Over, Ran};
+use gcd_workers::{JobsInput, Over, Ran};
 use std::alloc::{AllocError, Global};
 use std::sync::Wait;
 use std::thread::Threads;
@@ -61,7 +61,7 @@ fn run_beside_senders<R: Threads + Wait + Sync, P: Poller + Send, C: Clock + Sen
     ensures stands { IfOk result (λ run. StandsFor run.machine over.entry.plan.now run.journal.items) }
     ensures kept { KeepsListens P.tells (P.state poller.old) (P.state poller.new) }
 {
-    let given = Dispatch {
+    let given = JobsInput {
         plan: over.plan,
         workers: WORKERS,
         most: over.most,

@@ -15,7 +15,7 @@
 //! the request asks for it, and the report (`gcd_journal`). `check` loads a script and a journal, of as many events as a run can
 //! have, and judges it. `big` runs the large script over a file that is made, up to as many events as a run can have. `front` loads a
 //! script, looks whether it has an intake, loads its files, and runs it by four workers beside threads that are no workers
-//! (`Dispatch::run_beside` of `gcd_workers`): each sends its jobs by a mouth of a front (`gcd_front`), which has room for all of them, and
+//! (`JobsInput::run_beside` of `gcd_workers`): each sends its jobs by a mouth of a front (`gcd_front`), which has room for all of them, and
 //! shuts it. A command ends at the first step that cannot go on.
 //!
 //! The model of a story is an `End` (`end_of`): the first four, as plain values. The contracts speak of what the call saw of the shelf,

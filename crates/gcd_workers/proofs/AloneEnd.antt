@@ -36,7 +36,7 @@ use Rattle.gcd_workers.specs.AloneCalls.{ComesOf, HaveCalls, Stays}
 use Rattle.gcd_workers.specs.CallersRuns.{AreGivenBeside, OfSender, RanFor, RunsFront}
 use Rattle.gcd_workers.specs.JobsKept.{IsAcceptedAlone, IsAlone, IsJobsKept, WasPutAlone, jobs_sight}
 use Rattle.gcd_workers.specs.JobStates.{ComesToNoMore, said}
-use Rattle.gcd_workers.specs.declared.dispatch.Dispatch.{Dispatch}
+use Rattle.gcd_workers.specs.declared.jobs_input.JobsInput.{JobsInput}
 use Rattle.gcd_workers.specs.declared.job_state.JobState.{JobState}
 use Rattle.gcd_workers.specs.declared.job_state.JobState.TheVariants.{Gave, Waits}
 use Rattle.gcd_workers.specs.declared.jobs_kept.JobsGiven.{JobsGiven}
@@ -182,7 +182,7 @@ module _ {J X : Type 0} (gives : J → ℕ → ℕ → Type 0) (sent : X → ℕ
       run_gave b low gave = is.run.states_are.gave b.0 low gave
 
   -- what it kept, and the intake, tell of the run of what was given
-  pub alone_front : (kept : JobsKept J) (i : IntakeView X) (d : Dispatch J) (poller : Seen PollerState) (clock : Seen ClockState) (ran : Ran)
+  pub alone_front : (kept : JobsKept J) (i : IntakeView X) (d : JobsInput J) (poller : Seen PollerState) (clock : Seen ClockState) (ran : Ran)
       → d.plan.now ≡ given.plan.now → d.most ≡ given.most → d.jobs ≡ given.jobs.value → d.workers ≡ 1 → IsAlone gives sent given kept f i
       → ran.journal ≡ kept.journal → ran.values.items ≡ map said kept.states.items → HasState given.plan.now kept.journal.items ran.state
       → ((s : ℕ) → poller.before.watched s ≡ false) → IsRunOn given.most given.plan.now [] kept.journal.items poller clock
@@ -218,7 +218,7 @@ module _ {J X : Type 0} (gives : J → ℕ → ℕ → Type 0) (sent : X → ℕ
       }
 
   -- poller, clock and intake are at the end as the last call left them
-  pub alone_as : {P C : Type 0} (poller : P → PollerState) (clock : C → ClockState) (i : IntakeView X) (d : Dispatch J) (ran : Ran) (pt ct : Bool) (p q : P) (a e : C)
+  pub alone_as : {P C : Type 0} (poller : P → PollerState) (clock : C → ClockState) (i : IntakeView X) (d : JobsInput J) (ran : Ran) (pt ct : Bool) (p q : P) (a e : C)
       {j : IntakeView X} {r : P} {t : C} → j ≡ i → r ≡ q → t ≡ e
       → RunsFront gives sent d f i (record { tells = pt; before = poller p; after = poller q }) (record { tells = ct; before = clock a; after = clock e }) ran
       → RunsFront gives sent d f j (record { tells = pt; before = poller p; after = poller r }) (record { tells = ct; before = clock a; after = clock t }) ran

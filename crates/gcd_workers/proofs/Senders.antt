@@ -44,7 +44,7 @@ use Rattle.gcd_pool.specs.declared.hand.Hand.{Hand}
 use Rattle.gcd_pool.specs.declared.hand.Pool.{Pool}
 use Rattle.gcd_workers.specs.CallersRuns.{AreGivenBeside, OfSender, RanFor, RunsFront}
 use Rattle.gcd_workers.specs.JobsRuns.{AreGiven, AreLaid, AreOfJobs, IsGiven, RunsJobs, tally_shape}
-use Rattle.gcd_workers.specs.declared.dispatch.Dispatch.{Dispatch}
+use Rattle.gcd_workers.specs.declared.jobs_input.JobsInput.{JobsInput}
 use Rattle.gcd_workers.specs.declared.ran.Ran.{Ran}
 use Rattle.gcd_workers.proofs.Intake.{accepted_of_intake, accepted_within, ended_elsewhere, never_cancelled, none_of_any, zip_accepted}
 
@@ -111,7 +111,7 @@ module _ {J X : Type 0} (gives : J → ℕ → ℕ → Type 0) (sent : X → ℕ
       }
 
   -- what the pass at the end, the values of its board and the intake tell of the run of what was given
-  pub runs_front : (mine board : RowBoard (Cell J Tally)) (p : RowPass (Cell J Tally)) (d : Dispatch J) (n : ℕ) (f : FrontView) (i : IntakeView X)
+  pub runs_front : (mine board : RowBoard (Cell J Tally)) (p : RowPass (Cell J Tally)) (d : JobsInput J) (n : ℕ) (f : FrontView) (i : IntakeView X)
       (poller : Seen PollerState) (clock : Seen ClockState) (ran : Ran) → board ≡ mine → IsPassOf tally_shape (gives_of gives) board p
       → (terms_of mine).plan ≡ d.plan.now → (terms_of mine).limits.most ≡ d.most → n ≡ d.workers → ran.journal.items ≡ (view p).seen
       → AreLaid d.jobs.items (terms_of mine).cells → length d.jobs.items ≡ length d.plan.now.blocks
@@ -157,7 +157,7 @@ module _ {J X : Type 0} (gives : J → ℕ → ℕ → Type 0) (sent : X → ℕ
       }
 
   -- beside a front without senders each block has its own job
-  pub all_given : (d : Dispatch J) (f : FrontView) (i : IntakeView X) (poller : Seen PollerState) (clock : Seen ClockState) (ran : Ran)
+  pub all_given : (d : JobsInput J) (f : FrontView) (i : IntakeView X) (poller : Seen PollerState) (clock : Seen ClockState) (ran : Ran)
       → IsPlan d.plan.now → f.senders ≡ 0 → RunsFront gives sent d f i poller clock ran
       → AreGiven gives d.plan.now d.jobs.items ran.journal.items ran.values.items
   all_given d f i poller clock ran valid nobody left =
@@ -187,7 +187,7 @@ module _ {J X : Type 0} (gives : J → ℕ → ℕ → Type 0) (sent : X → ℕ
       }
 
   -- so such a run is one of jobs of any type, by no more than so many workers
-  pub runs_jobs : (d : Dispatch (Option J)) (jobs : List J) (workers : ℕ) (f : FrontView) (i : IntakeView X) (poller : Seen PollerState)
+  pub runs_jobs : (d : JobsInput (Option J)) (jobs : List J) (workers : ℕ) (f : FrontView) (i : IntakeView X) (poller : Seen PollerState)
       (clock : Seen ClockState) (ran : Ran) → IsPlan d.plan.now → d.jobs.items ≡ map Some jobs → length jobs ≡ length d.plan.now.blocks → f.senders ≡ 0
       → 0 < d.workers → d.workers ≤ workers → (Rises poller.before.faults poller.after.faults → ⊥) → RunsFront (gives_or_zero gives) sent d f i poller clock ran
       → RunsJobs gives d.most d.plan.now jobs workers ran

@@ -10,7 +10,7 @@ use Rattle.gcd_workers.specs.CallersRuns.{RunsFront}
 use Rattle.gcd_workers.specs.Met.{Met}
 use Rattle.gcd_workers.specs.declared.called.Called.{Called}
 use Rattle.gcd_workers.specs.declared.called.Called.TheVariants.{Nothing, Sent}
-use Rattle.gcd_workers.specs.declared.dispatch.Dispatch.{Dispatch}
+use Rattle.gcd_workers.specs.declared.jobs_input.JobsInput.{JobsInput}
 use Rattle.gcd_workers.specs.declared.ran.Ran.{Ran}
 
 -- what the job may give, at each input: 0 where it has nothing of its own, and else what the job that was sent may give
@@ -65,7 +65,7 @@ module _ {X : Type 0} where
 -- The run of what was given beside callers: there are a front with so many senders and its intake, beside which it promises what such a run
 -- does (`RunsFront`), and a mouth of each sender, by number, which the callers left as they say. What was taken of a sender is how the jobs
 -- begin that were sent through its mouth (`IsTakenOf`).
-pub record RunsBeside {J X : Type 0} (gives : J → ℕ → ℕ → Type 0) (sent : X → ℕ → Type 0) (leave : List (MouthView X) → Type 0) (d : Dispatch J)
+pub record RunsBeside {J X : Type 0} (gives : J → ℕ → ℕ → Type 0) (sent : X → ℕ → Type 0) (leave : List (MouthView X) → Type 0) (d : JobsInput J)
     (senders : ℕ) (outside : Met) (ran : Ran) : Type 0 where
   pub front : FrontView
   pub intake : IntakeView X
@@ -81,7 +81,7 @@ pub record RunsBeside {J X : Type 0} (gives : J → ℕ → ℕ → Type 0) (sen
 -- and a clock, with which it promises what a run beside callers does (`RunsBeside`). Nothing halts it from outside.
 pub record RunsCallers {X : Type 0} (sent : X → ℕ → Type 0) (leave : List (MouthView X) → Type 0) (plan : PlanView) (workers senders : ℕ)
     (ran : Ran) : Type 0 where
-  pub given : Dispatch (Called X)
+  pub given : JobsInput (Called X)
   pub plan_is : given.plan.now ≡ plan
   pub workers_is : given.workers ≡ workers
   pub most_is : given.most ≡ max_events

@@ -18,7 +18,7 @@ use Rattle.gcd_outer.specs.Outside.{ClockState, Seen}
 use Rattle.gcd_outer.specs.Tells.{PollerState}
 use Rattle.gcd_loop.specs.Ran.{RunsPlan}
 use Rattle.gcd_workers.specs.JobsRuns.{IsGiven}
-use Rattle.gcd_workers.specs.declared.dispatch.Dispatch.{Dispatch}
+use Rattle.gcd_workers.specs.declared.jobs_input.JobsInput.{JobsInput}
 use Rattle.gcd_workers.specs.declared.ran.Ran.{Ran}
 
 -- For each block none where it has not ended or is cancelled; where it has given a value, and is not of the intake, one that its job may
@@ -43,7 +43,7 @@ module _ {X : Type 0} (sent : X → ℕ → Type 0) (h : List Event) (values : L
     pub given : AllZip RanFor front (blocks_of_sender h s)
 
 -- what was given can be run beside this front and its intake, and the poller watches no feed
-pub record IsReadyBeside {J X : Type 0} (d : Dispatch J) (f : FrontView) (i : IntakeView X) (poller : PollerState) : Type 0 where
+pub record IsReadyBeside {J X : Type 0} (d : JobsInput J) (f : FrontView) (i : IntakeView X) (poller : PollerState) : Type 0 where
   pub jobs : length d.jobs.items ≡ length d.plan.now.blocks
   pub workers : (0 < d.workers) × (d.workers ≤ max_workers)
   pub most : 0 < d.most
@@ -56,7 +56,7 @@ pub record IsReadyBeside {J X : Type 0} (d : Dispatch J) (f : FrontView) (i : In
 -- sender of the front, it has come to this state, and these are the values of its blocks. Of each sender the blocks accepted stand for the
 -- jobs that were taken first; if a Shut stands, for all of them, and then each block of the intake is accepted, or all mouths were shut and
 -- all that was sent was taken.
-pub record RunsFront {J X : Type 0} (gives : J → ℕ → ℕ → Type 0) (sent : X → ℕ → Type 0) (d : Dispatch J) (f : FrontView) (i : IntakeView X)
+pub record RunsFront {J X : Type 0} (gives : J → ℕ → ℕ → Type 0) (sent : X → ℕ → Type 0) (d : JobsInput J) (f : FrontView) (i : IntakeView X)
     (poller : Seen PollerState) (clock : Seen ClockState) (ran : Ran) : Type 0 where
   pub run : RunsPlan d.most d.plan.now d.workers (AcceptsOf f.senders) poller clock ran.journal.items
   pub state_is : HasState d.plan.now ran.journal.items ran.state

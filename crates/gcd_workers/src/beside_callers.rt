@@ -13,7 +13,7 @@ ghost use Rattle.gcd_workers.specs.Met.{met};
 ghost use Rattle.gcd_workers.specs.declared.refused.RunRefused.{RunRefused};
 
 use crate::callers::{Callers, Ends, call_and_shut};
-use crate::dispatch::Dispatch;
+use crate::jobs_input::JobsInput;
 use crate::ran::Ran;
 use crate::refused::RunRefused;
 use gcd_front::{Front, Sent};
@@ -29,19 +29,19 @@ use std::thread::{Threads, join_mut};
 #[derive(Drop)]
 struct Given<'a, J> {
     alloc: Global,
-    dispatch: Dispatch<'a, J>,
+    input: JobsInput<'a, J>,
 }
 
 impl<'a, J: Job + Drop + Send> Given<'a, J> {
     // Takes the jobs out, and returns the run with them.
-    fn take(&mut self) -> Dispatch<'a, J>
-        ensures { result ≡ self.old.dispatch }
+    fn take(&mut self) -> JobsInput<'a, J>
+        ensures { result ≡ self.old.input }
     {
-        Dispatch {
-            plan: self.dispatch.plan,
-            workers: self.dispatch.workers,
-            most: self.dispatch.most,
-            jobs: mem::replace(&mut self.dispatch.jobs, Vec::new(self.alloc)),
+        JobsInput {
+            plan: self.input.plan,
+            workers: self.input.workers,
+            most: self.input.most,
+            jobs: mem::replace(&mut self.input.jobs, Vec::new(self.alloc)),
         }
     }
 
@@ -63,11 +63,11 @@ impl<'a, J: Job + Drop + Send> Given<'a, J> {
     ) -> Result<Ran, RunRefused>
     where
         J: Admits<X>,
-        requires ready { IsReadyBeside self.old.dispatch front.now ends.old.intake (P.state poller.old) }
+        requires ready { IsReadyBeside self.old.input front.now ends.old.intake (P.state poller.old) }
         requires new { AreNew front.now ends.old.mouths.items ends.old.lefts.items (vec_capacity ends.old.lefts) }
-        ensures ran { IfOk result (RunsFront J.gives X.gives self.old.dispatch front.now ends.new.intake
+        ensures ran { IfOk result (RunsFront J.gives X.gives self.old.input front.now ends.new.intake
             (seen P.tells P.state poller.old poller.new) (seen C.tells C.state clock.old clock.new)) }
-        ensures stands { IfOk result (λ run. StandsFor run.machine self.old.dispatch.plan.now run.journal.items) }
+        ensures stands { IfOk result (λ run. StandsFor run.machine self.old.input.plan.now run.journal.items) }
         ensures intake { IfOk result (λ _. IsIntakeOf front.now ends.new.intake) }
         ensures called { HaveCalled (K.called callers.old callers.new) front.now ends.new.lefts.items }
         ensures kept { KeepsListens P.tells (P.state poller.old) (P.state poller.new) }
@@ -80,12 +80,12 @@ impl<'a, J: Job + Drop + Send> Given<'a, J> {
             rt,
             &mut ||
                 requires { IsSync R.row × IsSend J.row × IsSend X.row × IsSend P.row × IsSend C.row
-                    × IsReadyBeside self.now.dispatch front.now intake.now (P.state poller.now) }
-                ensures { IfOk result (RunsFront J.gives X.gives self.entry.now.dispatch front.entry.now intake.exit.now
+                    × IsReadyBeside self.now.input front.now intake.now (P.state poller.now) }
+                ensures { IfOk result (RunsFront J.gives X.gives self.entry.now.input front.entry.now intake.exit.now
                     (seen P.tells P.state poller.entry.now poller.exit.now) (seen C.tells C.state clock.entry.now clock.exit.now))
                     × IfOk result (λ _. IsIntakeOf front.entry.now intake.exit.now)
                     × KeepsListens P.tells (P.state poller.entry.now) (P.state poller.exit.now)
-                    × IfOk result (λ run. StandsFor run.machine self.entry.now.dispatch.plan.now run.journal.items)
+                    × IfOk result (λ run. StandsFor run.machine self.entry.now.input.plan.now run.journal.items)
                     × (IsErrOf result RunRefused.BeforeTheRun → (poller.exit.now ≡ poller.entry.now) × (clock.exit.now ≡ clock.entry.now)) }
             {
                 self.take()
@@ -112,9 +112,9 @@ fn room_for(plan: &Plan) -> u32
     }
 }
 
-impl<J: Job + Drop + Send> Dispatch<'_, J> {
+impl<J: Job + Drop + Send> JobsInput<'_, J> {
     /// Runs the jobs in another thread and `callers` in this one (dispatch_async(3)). The callers hand in jobs through one mouth for each
-    /// sender, and there are at most `MAX_SENDERS` of `gcd_front`. The run is that of [`Dispatch::run`] beside a front that has room for as
+    /// sender, and there are at most `MAX_SENDERS` of `gcd_front`. The run is that of [`JobsInput::run`] beside a front that has room for as
     /// many jobs as the plan's intake has blocks. If the system makes no thread, the run follows the callers, and finds in the front what
     /// they sent. So callers must not wait for a value, and must stop sending at some time. Returns when both have ended.
     ///
@@ -167,10 +167,7 @@ impl<J: Job + Drop + Send> Dispatch<'_, J> {
             mouths,
             lefts,
         };
-        let mut given = Given {
-            alloc,
-            dispatch: self,
-        };
+        let mut given = Given { alloc, input: self };
         let ran = given.run_beside(rt, &front, &mut ends, callers, poller, clock)?;
         ends.intake.settle_all(&front, ends.lefts.as_mut_slice());
         Ok(ran)

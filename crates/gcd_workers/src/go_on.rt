@@ -8,8 +8,8 @@ ghost use Rattle.gcd_workers.specs.Opened.{IsStopped};
 ghost use Rattle.gcd_workers.specs.Ran.{GoesOnOverFiles};
 
 use crate::alone::without_team;
-use crate::dispatch::MOST_PUSHES;
 use crate::jobs_board::close;
+use crate::jobs_input::MOST_PUSHES;
 use crate::list_run::ListRun;
 use crate::nobodys_front::nobodys_front;
 use crate::opening::open_after;

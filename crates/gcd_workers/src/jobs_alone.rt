@@ -18,9 +18,9 @@ ghost use Rattle.gcd_workers.specs.JobsKept.{IsAlone};
 ghost use Rattle.gcd_workers.specs.JobStates.{said};
 ghost use Rattle.gcd_workers.specs.declared.refused.RunRefused.{RunRefused};
 
-use crate::dispatch::Dispatch;
 use crate::front_idle::FrontIdle;
 use crate::job_state::values_of;
+use crate::jobs_input::JobsInput;
 use crate::jobs_kept::{JobsGiven, JobsKept};
 use crate::ran::Ran;
 use crate::refused::RunRefused;
@@ -239,8 +239,8 @@ fn run_kept<J: Job + Admits<X> + Drop, X: Sent + Drop, R: Wait, P: Poller, C: Cl
     Ok(())
 }
 
-impl<J: Job + Drop> Dispatch<'_, J> {
-    /// Runs what was given by worker 0 alone, in this thread, as [`Dispatch::run`] does.
+impl<J: Job + Drop> JobsInput<'_, J> {
+    /// Runs what was given by worker 0 alone, in this thread, as [`JobsInput::run`] does.
     pub(crate) fn run_by_one<X, R: Wait, P: Poller, C: Clock>(
         self,
         rt: &R,
@@ -268,7 +268,7 @@ impl<J: Job + Drop> Dispatch<'_, J> {
         ensures kept { KeepsListens P.tells (P.state poller.old) (P.state poller.new) }
         ensures before { IsErrOf result RunRefused.BeforeTheRun → (poller.new ≡ poller.old) × (clock.new ≡ clock.old) × (intake.new ≡ intake.old) }
     {
-        let Dispatch {
+        let JobsInput {
             plan,
             workers: _,
             most,

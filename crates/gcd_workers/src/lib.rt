@@ -6,11 +6,11 @@
 //! | the works of a script's blocks over the contents of its files | [`run_workers`], with what it is given ([`Over`]) |
 //! | any function as the job of each block | [`run_jobs`] |
 //! | jobs that threads which are no workers send while the queue runs | [`run_callers`], with an impl of [`Callers`] that says what they send ([`Called`]) |
-//! | jobs of both kinds, with a poller, a clock or a limit of events of one's own | [`Dispatch::run_beside`] |
-//! | the same beside a front (`gcd_front`) that the caller made, in a thread of its own by [`run_beside`], beside a [`Side`] | [`Dispatch::run`] |
+//! | jobs of both kinds, with a poller, a clock or a limit of events of one's own | [`JobsInput::run_beside`] |
+//! | the same beside a front (`gcd_front`) that the caller made, in a thread of its own by [`run_beside`], beside a [`Side`] | [`JobsInput::run`] |
 //! | a board with handlers of one's own, and a rack | [`Team`] |
 //!
-//! [`Dispatch::run`] makes rack, board and pool, and a [`Team`] of a hand for each worker, and closes the board at the end. The board is made
+//! [`JobsInput::run`] makes rack, board and pool, and a [`Team`] of a hand for each worker, and closes the board at the end. The board is made
 //! for as many workers as there are hands, because a worker that never passes on what it has seen would hold the others. For one worker it
 //! makes none of them: worker 0 runs alone over its list, which has a job or a value for each block, and takes the jobs of outside callers
 //! as they come. It starts and ends a block at once where it can.
@@ -37,7 +37,7 @@
 //! | [`run_workers`], [`run_alone`] | the journal, the blocks' values, the state and the machine of a run over files (`RunsOverFiles`), or out of memory |
 //! | [`run_jobs`] | the same of a run of the caller's own jobs ([`Ran`], `RunsJobs`), or why there is none: another number of jobs, no number of workers, no event, out of memory |
 //! | [`run_callers`] | the same of a run whose work comes from its callers (`RunsCallers`), or why there is none: no intake, no number of workers or of senders, out of memory |
-//! | [`Dispatch::run_beside`], [`Dispatch::run`] | the same beside callers (`RunsBeside`), or beside a front and its intake (`RunsFront`), or out of memory |
+//! | [`JobsInput::run_beside`], [`JobsInput::run`] | the same beside callers (`RunsBeside`), or beside a front and its intake (`RunsFront`), or out of memory |
 //! | [`Team::run`] | worker 0's pass of a run that has ended, and the journal of what was gathered of it, with which the board may be closed (`HasLed`, `RunsPlan`, `IsGathered`), and which jobs its senders' blocks have (`Admitted`), or out of memory |
 //! | [`run_beside`] | nothing; each of two sides has run, and has become what its `ran` says |
 //!
@@ -46,7 +46,7 @@
 //! | `ran` (`RunsOverFiles`) | the journal is lawful, has at most `most` events, and has ended, in the state told; each event is of one of the workers, and with one of them each event of a worker is what worker 0 chooses at its place; no job of an outside caller is accepted, since there are none, and what poller and clock said stands in it (`RunsPlan` of `gcd_loop`); and the values are those of the works of the blocks that have ended and are not cancelled, and else 0 |
 //! | `stands` | the machine that is left stands for the journal |
 //! | `kept` | no listen was made, and the poller's count of faults did not fall; this holds if memory runs out too, and of the calls below |
-//! | `before` | if the answer is [`RunRefused::BeforeTheRun`], poller and clock are as they were; this holds of the calls of [`Dispatch`] too |
+//! | `before` | if the answer is [`RunRefused::BeforeTheRun`], poller and clock are as they were; this holds of the calls of [`JobsInput`] too |
 //!
 //! | clause of `run_jobs` | says |
 //! |---|---|
@@ -95,7 +95,6 @@ mod by_block;
 mod called;
 mod callers;
 mod callers_refused;
-mod dispatch;
 mod front_idle;
 mod gather;
 mod go_on;
@@ -104,6 +103,7 @@ mod hiring;
 mod job_state;
 mod jobs_alone;
 mod jobs_board;
+mod jobs_input;
 mod jobs_kept;
 mod jobs_refused;
 mod list_run;
@@ -129,8 +129,8 @@ pub use by_block::jobs_of;
 pub use called::Called;
 pub use callers::Callers;
 pub use callers_refused::CallersRefused;
-pub use dispatch::Dispatch;
 pub use hiring::team_size;
+pub use jobs_input::JobsInput;
 pub use jobs_refused::JobsRefused;
 pub use outcome::Outcome;
 pub use over::Over;

@@ -9,7 +9,7 @@ ghost use Rattle.gcd_workers.specs.declared.callers_refused.CallersRefused.{Call
 use crate::called::Called;
 use crate::callers::Callers;
 use crate::callers_refused::CallersRefused;
-use crate::dispatch::Dispatch;
+use crate::jobs_input::JobsInput;
 use crate::ran::Ran;
 use crate::silent::SilentPoller;
 use gcd_front::{MAX_SENDERS, Sent};
@@ -44,7 +44,7 @@ fn run_by_callers<X: Sent + Drop + Send, C: Callers<X>, R: Threads + Wait + Sync
     ensures { IfOk result (RunsCallers X.gives (C.called callers.old callers.new) plan.now workers senders) }
 {
     let mut poller = SilentPoller::new();
-    let given = Dispatch {
+    let given = JobsInput {
         plan,
         workers,
         most: MAX_EVENTS,
@@ -60,10 +60,10 @@ fn run_by_callers<X: Sent + Drop + Send, C: Callers<X>, R: Threads + Wait + Sync
 /// the mouths of so many senders (dispatch_async(3)). The next block of the plan's intake runs each job that is accepted, and the values lie
 /// by block ([`Ran`]); the journal tells by an `Accept` each which block is whose job. The blocks of the plan itself have no work of their
 /// own, and give 0 ([`Called`](crate::Called)). How mouths, front and threads go along is told at
-/// [`Dispatch::run_beside`](crate::Dispatch::run_beside).
+/// [`JobsInput::run_beside`](crate::JobsInput::run_beside).
 ///
 /// The outside is in memory, as [`run_jobs`](crate::run_jobs) has it: no feed is told of, and time jumps. A caller with feeds, with a
-/// clock, with a limit of events or with work for the plan's own blocks calls [`Dispatch::run_beside`](crate::Dispatch::run_beside).
+/// clock, with a limit of events or with work for the plan's own blocks calls [`JobsInput::run_beside`](crate::JobsInput::run_beside).
 ///
 /// Returns the first refusal that applies: [`CallersRefused::NoIntake`] exactly if the plan has no intake,
 /// [`CallersRefused::WorkerCount`] exactly if otherwise the number of workers is 0 or greater than `MAX_WORKERS`, which is 64,

@@ -5,8 +5,8 @@ ghost use Rattle.gcd_plan.specs.Validity.{IsPlan};
 ghost use Rattle.gcd_workers.specs.JobsRuns.{AreWorkers, IsNoTeam, RunsJobs};
 ghost use Rattle.gcd_workers.specs.declared.jobs_refused.JobsRefused.{JobsRefused};
 
-use crate::dispatch::Dispatch;
 use crate::hiring::team_size;
+use crate::jobs_input::JobsInput;
 use crate::jobs_refused::JobsRefused;
 use crate::nobodys_front::nobodys_front;
 use crate::ran::Ran;
@@ -56,7 +56,7 @@ fn run_by_team<J: Job + Drop + Send, R: Threads + Wait + Sync>(
 {
     let mut poller = SilentPoller::new();
     let (front, mut intake) = nobodys_front(alloc)?;
-    let given = Dispatch {
+    let given = JobsInput {
         plan,
         workers: hands_for(plan, workers, &jobs),
         most,
@@ -77,7 +77,7 @@ fn run_by_team<J: Job + Drop + Send, R: Threads + Wait + Sync>(
 /// The outside is in memory. No feed is told of: a read source delivers nothing, and its feed ends once worker 0 gives up a silent feed,
 /// after so many empty answers. Time jumps: each due time comes as soon as worker 0 has nothing else to do, so a run waits for no timer and
 /// for no limit of a wait, and no Tick says anything of real time. A caller with feeds or a clock of its own calls
-/// [`Dispatch::run`](crate::Dispatch::run), and one whose jobs come from other threads [`run_callers`](crate::run_callers).
+/// [`JobsInput::run`](crate::JobsInput::run), and one whose jobs come from other threads [`run_callers`](crate::run_callers).
 ///
 /// Returns the first refusal that applies: [`JobsRefused::JobCount`] exactly if the number of jobs is not that of the plan's blocks,
 /// [`JobsRefused::WorkerCount`] exactly if otherwise the number of workers is 0 or greater than `MAX_WORKERS`, which is 64,

@@ -29,7 +29,7 @@ pub(crate) const MOST_PUSHES: u32 = 4_096;
 
 /// The input of a run of jobs.
 #[derive(Drop)]
-pub struct Dispatch<'a, J> {
+pub struct JobsInput<'a, J> {
     /// The plan.
     pub plan: &'a Plan,
     /// The number of workers, 1 to 64. The run has all of them, whatever the plan.
@@ -40,7 +40,7 @@ pub struct Dispatch<'a, J> {
     pub jobs: Vec<J>,
 }
 
-impl<J: Job + Drop + Send> Dispatch<'_, J> {
+impl<J: Job + Drop + Send> JobsInput<'_, J> {
     /// Runs the jobs, and the jobs that outside callers send to a front, until the run is quiescent or halted, or has as many events as it
     /// may have. A job runs at most once, at the input 0, when its block comes to its end, and never if its block is cancelled
     /// (dispatch_block_cancel(3)). A block of the plan's intake runs the job that was accepted for it, which [`Admits::admit`] makes. The job
@@ -86,7 +86,7 @@ impl<J: Job + Drop + Send> Dispatch<'_, J> {
         if self.workers == 1 {
             return self.run_by_one(rt, alloc, front, intake, poller, clock);
         }
-        let Dispatch {
+        let JobsInput {
             plan,
             workers,
             most,

@@ -9,7 +9,7 @@ use Rattle.gcd_pool.specs.declared.hand.Pool.{Pool}
 use Rattle.gcd_workers.specs.Teams.{IsRoom}
 use Rattle.gcd_workers.proofs.Pools.{limits_along}
 use Rattle.gcd_workers.proofs.Senders.{runs_front}
-use Rattle.gcd_workers.proofs.dispatch.Dispatch.run.Goals as goal
+use Rattle.gcd_workers.proofs.jobs_input.JobsInput.run.Goals as goal
 
 pub run-requires-clause-first : goal.run-requires-clause-first
 run-requires-clause-first g c = λ lifetimes outlive d. ap (λ (v : View _). v.seen) (c.new-team.ensures.begun d) ∙ c.in-Ok-open.ensures.first.0

@@ -10,7 +10,7 @@ use Rattle.gcd_workers.specs.AloneCalls.{HaveCalls}
 use Rattle.gcd_workers.specs.declared.jobs_kept.JobsGiven.{JobsGiven}
 use Rattle.gcd_workers.proofs.AloneEnd.{alone_as, alone_front}
 use Rattle.gcd_workers.proofs.Calls.{calls_first}
-use Rattle.gcd_workers.proofs.dispatch.Dispatch.run_by_one.Goals as goal
+use Rattle.gcd_workers.proofs.jobs_input.JobsInput.run_by_one.Goals as goal
 
 pub run_kept-requires : goal.run_kept-requires
 run_kept-requires g c = record {

@@ -5,7 +5,7 @@ use Rattle.gcd_front.specs.Fronts.{AreTaken, IsTakenOf}
 use Rattle.gcd_front.specs.Views.{LeftView, MouthView, mouth_of}
 use Rattle.gcd_workers.specs.CalledRuns.{lefts_of}
 use Rattle.gcd_workers.proofs.Lefts.{taken_of_each}
-use Rattle.gcd_workers.proofs.dispatch.Dispatch.run_beside.Goals as goal
+use Rattle.gcd_workers.proofs.jobs_input.JobsInput.run_beside.Goals as goal
 
 pub run_beside-requires-clause-new : goal.run_beside-requires-clause-new
 run_beside-requires-clause-new g c = λ lifetimes outlive.
