@@ -1,4 +1,4 @@
-//! A program with a plan and jobs of its own (`PlanBuilder` of `gcd_builder`, `jobs_of` and `run_jobs` of `gcd_workers`). Three blocks
+//! A program with a plan and jobs of its own (`PlanBuilder` of `gcd_builder`, `Dispatch` of `gcd_workers`). Three blocks
 //! read a shared number on a concurrent queue, and a fourth writes it as a barrier (dispatch_barrier_async(3)). So the block before the
 //! barrier reads the old number and the blocks behind it read the new one, in each run.
 //!
@@ -10,8 +10,8 @@ ghost use Rattle.std.specs.Prelude.{◌≡◌, IfSome};
 
 use gcd_builder::PlanBuilder;
 use gcd_jobs::Job;
-use gcd_plan::{Kind, MAX_EVENTS};
-use gcd_workers::{jobs_of, run_jobs};
+use gcd_plan::Kind;
+use gcd_workers::Dispatch;
 use std::sync::atomic::{AtomicU64, Ordering};
 
 // A visit of a cache: it writes this number, or reads the one that the cache holds.
@@ -43,10 +43,11 @@ fn main(rt: HostRuntime) -> anyhow::Result<()> {
     let plan = plan.finish()?;
 
     let cache = AtomicU64::new(20);
-    let jobs = jobs_of(rt.alloc(), &plan, |block| {
-        Visit(&cache, (block == fill).then_some(25))
-    })?;
-    let run = run_jobs(&rt, rt.alloc(), &plan, 4, MAX_EVENTS, jobs)?;
+    let run = Dispatch::new(&plan)
+        .workers(4)
+        .run(&rt, rt.alloc(), |block| {
+            Visit(&cache, (block == fill).then_some(25))
+        })?;
     for name in ["early", "fill", "late", "last"] {
         let value = plan.block_named(name).and_then(|block| run.value(block));
         println!(rt; "{name}: {value:?}")?;

@@ -5,8 +5,8 @@ ghost use Rattle.gcd_workers.specs.JobsOf.{AreMadeBy};
 use gcd_plan::{Blk, Plan};
 use std::alloc::{AllocError, Global};
 
-/// Makes a list of one job for each block of the plan, by number (this project's own rule). `job_of` makes each job from its block, and is
-/// called once for each. The first block, number 0, is `main`. Returns `Err` if memory runs out, and the jobs made so far are dropped.
+// Makes a list of one job for each block of the plan, by number. `job_of` makes each job from its block, and is called once for each.
+// Returns `Err` if memory runs out, and the jobs made so far are dropped.
 pub fn jobs_of<J: Drop, F: Fn(Blk) -> J>(
     alloc: Global,
     plan: &Plan,

@@ -4,7 +4,8 @@
 //! | to run | call |
 //! |---|---|
 //! | the works of a script's blocks over the contents of its files | [`run_workers`], with what it is given ([`Over`]) |
-//! | any function as the job of each block | [`run_jobs`] |
+//! | any function as the job of each block | [`Dispatch::run`] |
+//! | a list of jobs, one for each block | [`Dispatch::run_list`] |
 //! | jobs that threads which are no workers send while the queue runs | [`run_callers`], with an impl of [`Callers`] that says what they send ([`Called`]) |
 //! | jobs of both kinds, with a poller, a clock or a limit of events of one's own | [`JobsInput::run_beside`] |
 //! | the same beside a front (`gcd_front`) that the caller made, in a thread of its own by [`run_beside`], beside a [`Side`] | [`JobsInput::run`] |
@@ -19,7 +20,7 @@
 //! block it asks [`hands_worth`] whether a team pays. If so, a board is made whose row begins with the list. Its slots have the values of the
 //! blocks that have ended, the jobs of the others ([`file_jobs`] makes such jobs for a board of one's own), and tallies that took what sources
 //! have handed over. The team goes on with the same outside. List and row are recorders of one loop, that of `gcd_loop`. (`gcd_example` and
-//! `gcd_callers_example` call [`run_jobs`] and [`run_callers`].)
+//! `gcd_callers_example` call [`Dispatch::run`] and [`run_callers`].)
 //!
 //! A run goes on until it is quiescent or halted, or has so many events as its caller allows, `most`, which may be any number up to
 //! `MAX_EVENTS` of `gcd_plan`. Nothing of that size is taken at once: the journal grows with the run.
@@ -31,11 +32,12 @@
 //! |---|---|
 //! | [`team_size`] | how many of so many workers there can be work for, at least 1 |
 //! | [`hands_worth`] | how many hands run fastest what is left of a run over files, at least 1 |
-//! | [`jobs_of`] | a job for each block, each what a function gives for the block, or out of memory |
+//! | [`Dispatch::new`], [`Dispatch::workers`], [`Dispatch::most`] | a run that is asked for: of the plan, by at most so many workers, of at most so many events |
 //! | [`Ran::value`], [`Ran::state`], [`Ran::journal`] | the value of a block, the state, and the events of a run of jobs |
 //! | [`tallies_of`], [`file_jobs`] | a tally for each source, and a job for each block's work, as a board has them, or out of memory |
 //! | [`run_workers`], [`run_alone`] | the journal, the blocks' values, the state and the machine of a run over files (`RunsOverFiles`), or out of memory |
-//! | [`run_jobs`] | the same of a run of the caller's own jobs ([`Ran`], `RunsJobs`), or why there is none: another number of jobs, no number of workers, no event, out of memory |
+//! | [`Dispatch::run`] | the same of a run of jobs that a function makes ([`Ran`], `RunsJobsOf`), or why there is none: no number of workers, no event, out of memory |
+//! | [`Dispatch::run_list`] | the same of a run of the jobs of a list (`RunsJobs`), or why there is none: another number of jobs, no number of workers, no event, out of memory |
 //! | [`run_callers`] | the same of a run whose work comes from its callers (`RunsCallers`), or why there is none: no intake, no number of workers or of senders, out of memory |
 //! | [`JobsInput::run_beside`], [`JobsInput::run`] | the same beside callers (`RunsBeside`), or beside a front and its intake (`RunsFront`), or out of memory |
 //! | [`Team::run`] | worker 0's pass of a run that has ended, and the journal of what was gathered of it, with which the board may be closed (`HasLed`, `RunsPlan`, `IsGathered`), and which jobs its senders' blocks have (`Admitted`), or out of memory |
@@ -48,10 +50,15 @@
 //! | `kept` | no listen was made, and the poller's count of faults did not fall; this holds if memory runs out too, and of the calls below |
 //! | `before` | if the answer is [`RunRefused::BeforeTheRun`], poller and clock are as they were; this holds of the calls of [`JobsInput`] too |
 //!
-//! | clause of `run_jobs` | says |
+//! | clause of `Dispatch::run_list` | says |
 //! |---|---|
 //! | `ran` (`RunsJobs`) | the journal is lawful, has at most `most` events, and has ended, in the state told, and nothing halts it from outside; whose its events are, as above; and a block has a value exactly if it has ended and is not cancelled, which is one that its own job may give (`AreGiven`) |
 //! | `job_count`, `worker_count`, `event_count` | it is refused by that name exactly if there is not one job for each block; if otherwise the number of workers is 0 or above 64; and if otherwise there may be no event |
+//!
+//! | clause of `Dispatch::run` | says |
+//! |---|---|
+//! | `ran` (`RunsJobsOf`) | there are jobs, one for each block, each of which the function may return for its block, of whose run `RunsJobs` holds |
+//! | `job_count`, `worker_count`, `event_count` | it is never refused for the number of jobs; it is refused by the other names exactly if the number of workers is 0 or above 64, and if otherwise there may be no event |
 //!
 //! | part of `RunsFront` | says |
 //! |---|---|
@@ -95,6 +102,7 @@ mod by_block;
 mod called;
 mod callers;
 mod callers_refused;
+mod dispatch;
 mod front_idle;
 mod gather;
 mod go_on;
@@ -125,10 +133,10 @@ mod worth;
 
 pub use alone::run_alone;
 pub use beside::{Side, run_beside};
-pub use by_block::jobs_of;
 pub use called::Called;
 pub use callers::Callers;
 pub use callers_refused::CallersRefused;
+pub use dispatch::Dispatch;
 pub use hiring::team_size;
 pub use jobs_input::JobsInput;
 pub use jobs_refused::JobsRefused;
@@ -138,7 +146,6 @@ pub use ran::Ran;
 pub use refused::RunRefused;
 pub use room::Room;
 pub use running_callers::run_callers;
-pub use running_jobs::run_jobs;
 pub use tallies::tallies_of;
 pub use team::Team;
 pub use workers::run_workers;

@@ -62,7 +62,7 @@ fn run_by_callers<X: Sent + Drop + Send, C: Callers<X>, R: Threads + Wait + Sync
 /// own, and give 0 ([`Called`](crate::Called)). How mouths, front and threads go along is told at
 /// [`JobsInput::run_beside`](crate::JobsInput::run_beside).
 ///
-/// The outside is in memory, as [`run_jobs`](crate::run_jobs) has it: no feed is told of, and time jumps. A caller with feeds, with a
+/// The outside is in memory, as [`Dispatch`](crate::Dispatch) has it: no feed is told of, and time jumps. A caller with feeds, with a
 /// clock, with a limit of events or with work for the plan's own blocks calls [`JobsInput::run_beside`](crate::JobsInput::run_beside).
 ///
 /// Returns the first refusal that applies: [`CallersRefused::NoIntake`] exactly if the plan has no intake,
