@@ -29,7 +29,7 @@ pub record IsOver (most : ℕ) (plan : PlanView) (h : List Event) (state : State
 
 -- A plan has run by so many workers, with at most so many events, and this is the run's whole journal: it is lawful; with one
 -- worker each event of a worker is what that worker chooses; of the jobs of outside callers `calls` holds; no Tick is ahead of the
--- clock, and moments waited for are due times; what the poller told stands in it, in order, and it is halted just where the poller
+-- clock, and moments waited for are due times; what the poller told stands in it, in order, and a Halt stands in it only if the poller
 -- failed (`RunsPlan` says all this); and it is over, in this state.
 pub record Ran (poller : Seen PollerState) (clock : Seen ClockState) (plan : PlanView) (workers most : ℕ) (calls : List Event → Type 0)
     (h : List Event) (state : State) : Type 0 where

@@ -5,8 +5,6 @@ use Rattle.gcd_event.specs.declared.event.Event.{Event}
 use Rattle.gcd_history.specs.declared.state.State.{State}
 use Rattle.gcd_history.specs.History.{why, IsLawful}
 use Rattle.gcd_history.specs.Ends.{HasState}
-use Rattle.gcd_machine.specs.Stands.{StandsFor}
-use Rattle.gcd_refinement.specs.MachineView.{MachineView}
 use Rattle.gcd_journal.specs.declared.checker.CheckFault.{CheckFault}
 use Rattle.gcd_journal.specs.declared.checker.CheckFault.TheVariants.{Unlawful, Memory}
 
@@ -26,8 +24,3 @@ pub record IsFirstBarred (plan : PlanView) (h : List Event) (index : ℕ) : Type
 abbrev pub IsFaultOf : PlanView → List Event → CheckFault → Type 0
 IsFaultOf plan h (Unlawful index) = IsFirstBarred plan h index
 IsFaultOf plan h Memory = ⊤
-
--- a machine has taken the events up to the first that is not permitted, which is at this index; None: each is, and it has taken all
-abbrev pub HasTaken : PlanView → List Event → MachineView → Option ℕ → Type 0
-HasTaken plan h machine None = IsLawful plan h × StandsFor machine plan h
-HasTaken plan h machine (Some index) = IsFirstBarred plan h index × StandsFor machine plan (take index h)

@@ -6,3 +6,4 @@ pub mod Spelling
 pub mod Named
 pub mod NextLine
 pub mod Totals
+pub mod Taken

@@ -1,7 +1,8 @@
 // Judges the events of a run.
 ghost use Rattle.std.specs.Prelude.{◌≡◌, ◌<◌, ◌^◌, [], length, IfOk, IfErr};
 ghost use Rattle.gcd_machine.specs.Stands.{StandsFor};
-ghost use Rattle.gcd_journal.specs.Judged.{HasTaken, IsLawfulWith, IsFaultOf};
+ghost use Rattle.gcd_journal.specs.Judged.{IsLawfulWith, IsFaultOf};
+ghost use Rattle.gcd_journal.specs.Taken.{HasTaken};
 
 use gcd_event::Entry;
 use gcd_history::State;

@@ -25,8 +25,8 @@
 //! So what is proved of lawful histories of valid plans (`laws` of `gcd_history`) holds of the journal: blocks of one serial
 //! queue never overlap.
 //!
-//! Nothing is said of a shelf, poller or sink that tells nothing, but that a fault comes only where it failed, and nothing of
-//! time. By one worker the journal is exact; by more, which worker does what is left to the threads.
+//! Nothing is said of a shelf, poller or sink that tells nothing, but that a fault comes only where it failed, and of
+//! time only that no Tick is ahead of the clock. By one worker the journal is exact; by more, which worker does what is left to the threads.
 //!
 //! Where an item names no manual page, what it says is this project's own rule.
 #![tactic(auto)]

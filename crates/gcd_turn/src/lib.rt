@@ -37,7 +37,7 @@
 //! `proofs/HeardSteps`, `HeardPolls` and `TimeSteps` have a lemma for each step and for each kind of event, and
 //! `proofs/Promised` the promises. `heard` of `ask` and of `idle` keep the invariant, at each history that the machine stands for.
 //!
-//! Nothing is said of how long a poll or a wait takes, nor of a poller that tells nothing but that a Halt stands just where it
+//! Nothing is said of how long a poll or a wait takes, nor of a poller that tells nothing but that a Halt stands only where it
 //! failed.
 #![tactic(auto)]
 

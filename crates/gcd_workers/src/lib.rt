@@ -47,7 +47,7 @@
 //! |---|---|
 //! | `ran` (`RunsOverFiles`) | the journal is lawful, has at most `most` events, and has ended, in the state told; each event is of one of the workers, and with one of them each event of a worker is what worker 0 chooses at its place; no job of an outside caller is accepted, since there are none, and what poller and clock said stands in it (`RunsPlan` of `gcd_loop`); and the values are those of the works of the blocks that have ended and are not cancelled, and else 0 |
 //! | `stands` | the machine that is left stands for the journal |
-//! | `kept` | no listen was made, and the poller's count of faults did not fall; this holds if memory runs out too, and of the calls below |
+//! | `kept` | no listen was made, and the poller's count of faults did not fall; this holds if memory runs out too, and of the calls of [`JobsInput`] |
 //! | `before` | if the answer is [`RunRefused::BeforeTheRun`], poller and clock are as they were; this holds of the calls of [`JobsInput`] too |
 //!
 //! | clause of `Dispatch::run_list` | says |
