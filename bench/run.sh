@@ -7,7 +7,7 @@
 # - a strip of as many blocks, which one `apply` submits to a concurrent queue.
 #
 #   start    the program with no words: it prints how it is called
-#   reading  the script is read: `check` over an empty journal, less the start
+#   reading  the script is read: `check` over a journal of no event, less the start
 #   running  the plan runs and its report is written: `run`, less the start and the reading
 #   writing  the journal's text is made and written: `run --journal`, less `run`
 set -eu -o pipefail
@@ -31,14 +31,14 @@ script_of "" >idle
 script_of " lines f" >lines
 printf '%s\n' "file f f.txt" "queue q concurrent" "strip part bytes f 1 16384" "main" "apply q part" >"strip"
 awk 'BEGIN { for (i = 0; i < 512; i++) print "seven77" }' >f.txt
-: >journal
+echo "events 0" >journal
 
 # Prints the least time of the call, in microseconds.
 best() {
     local least= from spent
     for _ in {1..99}; do
         from=${EPOCHREALTIME/./}
-        "$gcd" "$@" >told || :
+        "$gcd" "$@" >told 2>said || :
         spent=$((${EPOCHREALTIME/./} - from))
         if [ -z "$least" ] || [ "$spent" -lt "$least" ]; then least=$spent; fi
     done
