@@ -7,7 +7,7 @@
 # - the words of 16 MiB once, in 64 parts, which `apply` submits to a concurrent queue, by 1 worker and by 4.
 #
 #   whole  nanoseconds a block of a call, with its start, the reading of the script and the writing of the report; the best of 25
-#   run    `whole` less a call that only reads the script (`check` over an empty journal)
+#   run    `whole` less a call that only reads the script (`check` over a journal of no event)
 #   peer   the first run of a peer's process, and its best of nine, as it measures them itself: making its pool, running the blocks,
 #          ending the pool; each the least of five processes
 set -eu -o pipefail
@@ -47,7 +47,7 @@ awk 'BEGIN {
 }' >heavy
 printf '%s\n' "file f f.txt" "queue q concurrent" "strip part words f 262144 64" "main" "apply q part" >parts
 awk 'BEGIN { for (i = 0; i < 2097152; i++) print "seven77" }' >f.txt
-: >journal
+echo "events 0" >journal
 
 # Prints the least time of a call, in microseconds; the first argument says how many calls are made.
 best() {
@@ -55,7 +55,7 @@ best() {
     shift
     while [ $((tries -= 1)) -ge 0 ]; do
         from=${EPOCHREALTIME/./}
-        "$gcd" "$@" >told || :
+        "$gcd" "$@" >told 2>said || :
         spent=$((${EPOCHREALTIME/./} - from))
         if [ -z "$least" ] || [ "$spent" -lt "$least" ]; then least=$spent; fi
     done
