@@ -1,21 +1,14 @@
-// How worker 0 passes time between two turns.
+// How worker 0 of a team passes time between two turns.
+use crate::front_idle::FrontIdle;
 use crate::idle::Idle;
 use gcd_front::Front;
 use std::sync::Wait;
-use std::thread::yield_now;
 
-// How often worker 0 yields its processor before it sleeps, where jobs may come from outside. A yield takes a tenth of a microsecond or
-// more, and a sleeper some twenty to wake.
-const YIELDS: u32 = 1_024;
-
-// As every worker does. But where callers from outside may send jobs it yields for longer, and what they send ends its sleep.
+// As every worker does. But beside senders it yields for longer, and what they send ends its sleep.
 #[derive(Drop)]
 pub(crate) struct HeadIdle {
     idle: Idle,
-    // How often it has yielded since something came.
-    yields: u32,
-    // Whether it listens to what is sent.
-    listens: bool,
+    beside: FrontIdle,
 }
 
 impl HeadIdle {
@@ -23,32 +16,23 @@ impl HeadIdle {
     pub(crate) fn new() -> HeadIdle {
         HeadIdle {
             idle: Idle::new(),
-            yields: 0,
-            listens: false,
+            beside: FrontIdle::new(),
         }
     }
 
-    // A pause where jobs may come. It listens first, and sleeps only at a later pause: what came before is found by the turn between.
+    // A pause beside senders.
     fn pause_beside_senders<X: Drop, R: Wait>(&mut self, rt: &R, front: &Front<X>) {
-        if self.yields < YIELDS {
-            self.yields += 1;
-            yield_now();
-        } else if !self.listens {
-            front.listen();
-            self.listens = true;
-        } else if let Some(sleep) = self.idle.spin() {
-            front.sleep(rt, sleep);
+        if self.beside.is_at_sleep(front) {
+            if let Some(sleep) = self.idle.spin() {
+                front.sleep(rt, sleep);
+            }
         }
     }
 
     // Something came: the next pause is the first again.
     #[inline(always)]
     pub(crate) fn reset<X: Drop>(&mut self, front: &Front<X>) {
-        if self.listens {
-            front.ignore();
-            self.listens = false;
-        }
-        self.yields = 0;
+        self.beside.reset(front);
         self.idle.reset();
     }
 

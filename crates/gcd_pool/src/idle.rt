@@ -9,7 +9,7 @@ use std::time::Duration;
 // The first sleep, and the longest, in microseconds.
 const FIRST_SLEEP: u64 = 50;
 
-const LONGEST_SLEEP: u64 = 250;
+pub(crate) const LONGEST_SLEEP: u64 = 250;
 
 // How many of the longest sleeps are a long wait: ten seconds of them.
 const LONG_WAIT: u32 = 40_000;

@@ -33,8 +33,8 @@
 //! | all mouths were shut, and a later take gave none | it puts a Shut |
 //! | else | nothing: its turn goes on, and it polls without waiting |
 //!
-//! With nothing to do worker 0 yields its processor for a while, and then sleeps as a helper does; but where the front has senders the next
-//! job that is sent, or mouth that is shut, ends that sleep. (No clause says how soon.)
+//! With nothing to do worker 0 sleeps as a helper does. If the front has senders it yields its processor for a while first, and the next job
+//! that is sent, or mouth that is shut, ends its sleep ([`FrontIdle`]; no clause says how soon).
 //!
 //! So a job is dropped only where the run is halted or full as its Accept is put. A sender's jobs are accepted in their order, each once. A
 //! run without outside callers has a front without senders, whose mouths are all shut at once.
@@ -84,6 +84,7 @@ mod admit_cells;
 mod drains;
 mod duty;
 mod finding;
+mod front_idle;
 mod hand;
 mod head;
 mod head_idle;
@@ -100,6 +101,7 @@ mod turn;
 pub use admit_cells::AdmitCells;
 pub use drains::{begin, begin_near};
 pub use duty::{Duty, Exit, duty_of};
+pub use front_idle::FrontIdle;
 pub use hand::{Hand, Pool};
 pub use idle::Idle;
 pub use own::record_own;

@@ -18,7 +18,6 @@ ghost use Rattle.gcd_workers.specs.JobsKept.{IsAlone};
 ghost use Rattle.gcd_workers.specs.JobStates.{said};
 ghost use Rattle.gcd_workers.specs.declared.refused.RunRefused.{RunRefused};
 
-use crate::front_idle::FrontIdle;
 use crate::job_state::values_of;
 use crate::jobs_input::JobsInput;
 use crate::jobs_kept::{JobsGiven, JobsKept};
@@ -31,6 +30,7 @@ use gcd_loop::{Recorder, Step, Stop, run_turns};
 use gcd_machine::{Machine, Put};
 use gcd_outer::{Clock, Poller};
 use gcd_plan::{Blk, Plan};
+use gcd_pool::FrontIdle;
 use gcd_turn::Outside;
 use std::alloc::{AllocError, Global};
 use std::snapshot::Snapshot;

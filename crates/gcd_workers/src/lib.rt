@@ -103,7 +103,6 @@ mod called;
 mod callers;
 mod callers_refused;
 mod dispatch;
-mod front_idle;
 mod gather;
 mod go_on;
 mod hire;
