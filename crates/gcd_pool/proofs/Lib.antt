@@ -21,4 +21,4 @@ pub mod Found
 pub mod Laid
 pub mod Stops
 pub mod Ends
-pub mod Waits
+pub mod Due

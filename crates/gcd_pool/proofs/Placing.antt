@@ -16,9 +16,10 @@ use Rattle.gcd_machine.specs.declared.put.Put.TheVariants.{Placed as PutPlaced, 
 use Rattle.gcd_row.specs.declared.view.View.{View}
 use Rattle.gcd_pool.specs.Duties.{begun_on, node_of_run}
 use Rattle.gcd_pool.specs.Hands.{GoesOn}
-use Rattle.gcd_pool.specs.Placing.{HasPlaced, HasPlacedNone, SaysBegun, SaysPlaced, SaysRecorded, SaysRested}
+use Rattle.gcd_pool.specs.Placing.{HasPlaced, HasPlacedNone, SaysBegun, SaysPlaced, SaysRecorded, SaysRested, WasHeldUp}
 use Rattle.gcd_pool.specs.declared.turn.Turn.{Turn}
 use Rattle.gcd_pool.specs.declared.turn.Turn.TheVariants.{Left, Placed, Ended, Out, Waited, Rested, Stopped}
+use Rattle.gcd_pool.proofs.Puts.{goes_further}
 
 -- an event that begins a run on a node begins a run
 begun_run : (plan : PlanView) (h : List Event) (e : Event) (n : Obj) → begun_on plan h e ≡ Some n → (r : Run) × (begun e ≡ Some r)
@@ -60,6 +61,9 @@ module _ {S : Type 0} where
   placed_further Rested v u w go one two = quiet_further v u w go one two
   placed_further Stopped v u w go one two = quiet_further v u w go one two
 
+  held_further : (e : Event) (v u w : View S) → GoesOn v u → WasHeldUp e u w → WasHeldUp e v w
+  held_further e v u w go h = record { before = h.before; after = h.after; by = h.by; passed = h.passed; first = goes_further v u h.before go h.first; held = h.held; since = h.since }
+
   pub recorded_further : (e : Event) (t : Turn) (v u w : View S) → GoesOn v u → HasPlacedNone v u → SaysRecorded e t u w → SaysRecorded e t v w
   unfolding SaysRecorded
   recorded_further e Left v u w go one two = quiet_further v u w go one two
@@ -68,7 +72,7 @@ module _ {S : Type 0} where
   recorded_further e (Out node) v u w go one two = two
   recorded_further e Waited v u w go one two = (quiet_further v u w go one two.0, two.1)
   recorded_further e Rested v u w go one two = two
-  recorded_further e Stopped v u w go one two = quiet_further v u w go one two
+  recorded_further e Stopped v u w go one two = (quiet_further v u w go one two.0, held_further e v u w go two.1)
 
   -- ## An event that is recorded
 
@@ -92,9 +96,9 @@ module _ {S : Type 0} where
   unfolding SaysRecorded
   waits_barred e v w at y says = (says.0.sees.ahead.own, (y, subst (λ (x : View S). Rattle.gcd_history.specs.History.why x.terms.plan w.seen e ≡ Some y) (Rattle.std.proofs.Common.sym says.0.sees.is) says.3))
 
-  pub stops : (e : Event) (v w : View S) → HasPlacedNone v w → SaysRecorded e Stopped v w
+  pub stops : (e : Event) (v w : View S) → HasPlacedNone v w → WasHeldUp e v w → SaysRecorded e Stopped v w
   unfolding SaysRecorded
-  stops e v w none = none
+  stops e v w none held = (none, held)
 
   pub recorded_placed : (e : Event) (t : Turn) (v w : View S) → SaysRecorded e t v w → SaysPlaced t v w
   unfolding SaysRecorded SaysPlaced
@@ -104,7 +108,7 @@ module _ {S : Type 0} where
   recorded_placed e (Out node) v w says = absurd says
   recorded_placed e Waited v w says = says.0
   recorded_placed e Rested v w says = absurd says
-  recorded_placed e Stopped v w says = says
+  recorded_placed e Stopped v w says = says.0
 
   pub recorded_rests : (e : Event) (t : Turn) (v w : View S) → SaysRecorded e t v w → SaysRested t w
   unfolding SaysRecorded SaysRested

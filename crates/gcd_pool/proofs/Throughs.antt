@@ -21,7 +21,7 @@ use Rattle.gcd_row.specs.declared.view.View.{View}
 use Rattle.gcd_row.proofs.Fronts.{starts_refl, starts_trans}
 use Rattle.gcd_pool.specs.Hands.{GoesOn, IsFresh, IsSettled}
 use Rattle.gcd_pool.specs.Throughs.{HasWaited, SaysThrough, WasPut}
-use Rattle.gcd_pool.specs.Placing.{HasPlaced, HasPlacedNone, SaysRecorded}
+use Rattle.gcd_pool.specs.Placing.{HasPlaced, HasPlacedNone, SaysRecorded, WasHeldUp}
 use Rattle.gcd_pool.specs.Works.{AddsNone, AddsOnly, AddsWork}
 use Rattle.gcd_pool.specs.declared.turn.Turn.{Turn}
 use Rattle.gcd_pool.specs.declared.turn.Turn.TheVariants.{Left, Waited, Placed as TurnPlaced, Ended, Stopped as TurnStopped}
@@ -176,6 +176,17 @@ module _ {S : Type 0} (shape : S → Shape) (gives : S → ℕ → Type 0) (b : 
   pub full_none : (e : Event) (p q : RowPass S) → SaysThrough shape gives b e p q Full → HasPlacedNone (view p) (view q)
   full_none e p q x = quiet_further (view p) (view x.last) (view q) (waited_goes p x.last x.waited) (waited_quiet p x.last x.waited) x.says.1.own
 
+  pub held_up : (e : Event) (p q : RowPass S) (by passed : ℕ) → SaysThrough shape gives b e p q (Held by passed) → WasHeldUp e (view p) (view q)
+  held_up e p q by passed x = record {
+    before = view x.put.last;
+    after = view x.held;
+    by = by;
+    passed = passed;
+    first = waited_goes p x.put.last x.put.waited;
+    held = x.put.says;
+    since = waited_goes x.held q x.since;
+  }
+
   recorded_then : (e : Event) (p q : RowPass S) (said : Put) (t : Turn) → (x : WasPut shape gives b e p q said) → SaysRecorded e t (view x.last) (view q) → SaysRecorded e t (view p) (view q)
   recorded_then e p q said t x recorded = recorded_further e t (view p) (view x.last) (view q) (waited_goes p x.last x.waited) (waited_quiet p x.last x.waited) recorded
 
@@ -195,7 +206,7 @@ module _ {S : Type 0} (shape : S → Shape) (gives : S → ℕ → Type 0) (b : 
   barred_waits e p q at y x = recorded_then e p q (Barred at y) Waited x (waits_barred e (view x.last) (view q) at y x.says)
 
   pub outcome_stops : (e : Event) (p q : RowPass S) (by passed : ℕ) → SaysThrough shape gives b e p q (Held by passed) → SaysRecorded e TurnStopped (view p) (view q)
-  outcome_stops e p q by passed x = stops e (view p) (view q) (held_none e p q by passed x)
+  outcome_stops e p q by passed x = stops e (view p) (view q) (held_none e p q by passed x) (held_up e p q by passed x)
 
   -- ## How full the row is
 

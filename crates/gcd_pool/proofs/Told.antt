@@ -1,5 +1,5 @@
 -- What a pass's machine tells of what the pass has seen.
-use Rattle.std.proofs.Common.{◌≡◌, ℕ, ◌≤◌, Bool, true, List, length, Some, None, sym, ap, ◌∙◌, subst}
+use Rattle.std.proofs.Common.{◌≡◌, ℕ, ◌≤◌, Bool, true, List, length, Option, Some, None, sym, ap, ◌∙◌, subst}
 use Rattle.gcd_plan.specs.Kinds.{is_node}
 use Rattle.gcd_plan.specs.PlanView.{PlanView}
 use Rattle.gcd_plan.specs.declared.numbers.Obj.{Obj}
@@ -45,13 +45,13 @@ module _ {S : Type 0} (shape : S → Shape) (gives : S → ℕ → Type 0) (b : 
       subst (λ (k : ℕ). Begins v.terms.plan v.seen k n.0 e) (worker ∙ is.number)
       (begins v.terms.plan v.seen w n.0 e (valid_plan shape gives b p is) (lawful_seen shape gives b p is) (sym told))
 
-  -- that nothing may begin there
-  pub begins_none_there : (m : MachineView) (w : ℕ) (n at : Obj) → m ≡ machine_of p → w ≡ worker_number p → n ≡ at
-      → ((plan : PlanView) (h : List Event) → StandsFor m plan h → None ≡ begin_of plan h w n.0) → begin_of (view p).terms.plan (view p).seen (view p).worker at.0 ≡ None
-  begins_none_there m w n at machine worker node tells =
+  -- which it tells
+  pub begin_there : (m : MachineView) (w : ℕ) (n at : Obj) (o : Option Event) → m ≡ machine_of p → w ≡ worker_number p → n ≡ at
+      → ((plan : PlanView) (h : List Event) → StandsFor m plan h → o ≡ begin_of plan h w n.0) → begin_of (view p).terms.plan (view p).seen (view p).worker at.0 ≡ o
+  begin_there m w n at o machine worker node tells =
       let v = view p in
-      let told : begin_of v.terms.plan v.seen w n.0 ≡ None = sym (tells v.terms.plan v.seen (stands_as m machine)) in
-      subst (λ (k : ℕ). begin_of v.terms.plan v.seen k at.0 ≡ None) (worker ∙ is.number) (subst (λ (x : Obj). begin_of v.terms.plan v.seen w x.0 ≡ None) node told)
+      let told : begin_of v.terms.plan v.seen w n.0 ≡ o = sym (tells v.terms.plan v.seen (stands_as m machine)) in
+      subst (λ (k : ℕ). begin_of v.terms.plan v.seen k at.0 ≡ o) (worker ∙ is.number) (subst (λ (x : Obj). begin_of v.terms.plan v.seen w x.0 ≡ o) node told)
 
   -- what it chooses
   chosen : (most w from : ℕ) (e : Event) → w ≡ worker_number p → Chooses most (view p).terms.plan (view p).seen w from e → (worker_of e ≡ (view p).worker) × (why (view p).terms.plan (view p).seen e ≡ None) × (is_work e ≡ true)
@@ -65,6 +65,13 @@ module _ {S : Type 0} (shape : S → Shape) (gives : S → ℕ → Type 0) (b : 
 
   within : (most : ℕ) → most ≡ (terms_of b).limits.most → length (view p).seen ≤ most
   within most limit = subst (λ (n : ℕ). length (view p).seen ≤ n) (sym (own_limit most limit)) is.few
+
+  -- its choice
+  pub chooses : (m : MachineView) (most w from : ℕ) (e : Event) → m ≡ machine_of p → most ≡ (terms_of b).limits.most → w ≡ worker_number p
+      → ((plan : PlanView) (h : List Event) → StandsFor m plan h → length h ≤ most → Chooses most plan h w from e) → choice_of (view p).terms.plan (view p).seen (view p).worker from ≡ Some e
+  chooses m most w from e machine limit worker tells =
+      let v = view p in
+      subst (λ (k : ℕ). choice_of v.terms.plan v.seen k from ≡ Some e) (worker ∙ is.number) (tells v.terms.plan v.seen (stands_as m machine) (within most limit)).chosen
 
   pub to_record : (m : MachineView) (most w from : ℕ) (e : Event) → m ≡ machine_of p → most ≡ (terms_of b).limits.most → w ≡ worker_number p → ((plan : PlanView) (h : List Event) → StandsFor m plan h → length h ≤ most → IsDuty most plan h w from (Record e))
       → (worker_of e ≡ (view p).worker) × (why (view p).terms.plan (view p).seen e ≡ None) × (is_work e ≡ true)

@@ -14,7 +14,7 @@ use Rattle.gcd_loop.proofs.Events.{work_accepts_none}
 use Rattle.gcd_history.specs.Held.{is_of}
 use Rattle.gcd_history.specs.Team.{of_worker, StartsWith}
 use Rattle.gcd_history.proofs.HeldRuns.OwnEvents.{none_of_worker}
-use Rattle.gcd_row.specs.Views.{seeing}
+use Rattle.gcd_row.specs.Views.{knowing, seeing}
 use Rattle.gcd_row.specs.Passes.{Ahead, Sees, Says}
 use Rattle.gcd_machine.specs.declared.put.Put.{Put}
 use Rattle.gcd_machine.specs.declared.put.Put.TheVariants.{Placed, Barred, Held, Full}
@@ -62,6 +62,16 @@ module _ {S : Type 0} where
 
   pub sees_adds : (v w : View S) → Sees v w → AddsWork v w
   sees_adds v w l = ahead_adds v w (ap (λ (x : View S). x.worker) l.is) (ap (λ (x : View S). x.handed) l.is) l.ahead
+
+  -- it knows something else of the passed words, and nothing more
+  pub knowing_adds : (v w : View S) → w ≡ knowing v v.seen w.marks → AddsWork v w
+  knowing_adds v w is = record {
+    worker = ap (λ (x : View S). x.worker) is;
+    rest = [];
+    split = ap (λ (x : View S). x.seen) is ∙ sym (append-nil v.seen);
+    work = refl;
+    handed = ap (λ (x : View S). x.handed) is;
+  }
 
   pub says_adds : (e : Event) (v w : View S) (r : Put) → is_work e ≡ true → Says e v w r → AddsWork v w
   says_adds e v w (Placed n) work p =

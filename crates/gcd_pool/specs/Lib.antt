@@ -5,7 +5,7 @@ pub mod Hands
 pub mod Found
 pub mod Turns
 pub mod Throughs
-pub mod Waits
+pub mod Due
 pub mod Placing
 pub mod Works
 pub mod Leads

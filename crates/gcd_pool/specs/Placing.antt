@@ -1,5 +1,5 @@
 -- What an answer says of the events that the worker has placed.
-use Rattle.std.specs.Prelude.{◌≡◌, ◌++◌, ◌∷◌, [], Some, None}
+use Rattle.std.specs.Prelude.{◌≡◌, ◌++◌, ◌∷◌, [], ℕ, Some, None}
 use Rattle.gcd_plan.specs.declared.numbers.Obj.{Obj}
 use Rattle.gcd_plan.specs.declared.numbers.Run.{Run}
 use Rattle.gcd_plan.specs.declared.why.Why.{Why}
@@ -9,7 +9,10 @@ use Rattle.gcd_history.specs.Ends.{IsGoingOn}
 use Rattle.gcd_history.specs.History.{why}
 use Rattle.gcd_history.specs.Laws.{HasNoChoice}
 use Rattle.gcd_history.specs.Team.{of_worker}
+use Rattle.gcd_machine.specs.declared.put.Put.TheVariants.{Held}
+use Rattle.gcd_row.specs.Passes.{Says}
 use Rattle.gcd_row.specs.declared.view.View.{View}
+use Rattle.gcd_pool.specs.Hands.{GoesOn}
 use Rattle.gcd_pool.specs.declared.turn.Turn.{Turn}
 use Rattle.gcd_pool.specs.declared.turn.Turn.TheVariants.{Left, Placed, Ended, Out, Waited, Rested, Stopped}
 
@@ -21,6 +24,16 @@ module _ {S : Type 0} where
   -- it has placed none
   abbrev pub HasPlacedNone : View S → View S → Type 0
   HasPlacedNone v w = of_worker v.worker w.seen ≡ of_worker v.worker v.seen
+
+  -- a passed word held this event as it was put in the call, though it was permitted
+  pub record WasHeldUp (e : Event) (v w : View S) : Type 0 where
+    pub before : View S
+    pub after : View S
+    pub by : ℕ
+    pub passed : ℕ
+    pub first : GoesOn v before
+    pub held : Says e before after (Held by passed)
+    pub since : GoesOn after w
 
   -- it has placed one event where it answers `Placed`, which ends no run, or `Ended`, which ends one, and else none
   unfoldable pub SaysPlaced : Turn → View S → View S → Type 0
@@ -43,7 +56,7 @@ module _ {S : Type 0} where
   SaysRested Rested v = IsGoingOn v.terms.plan v.seen × HasNoChoice v.terms.plan v.seen v.worker
 
   -- of an event that was to be recorded: it was placed, and ends no run (`Placed`) or one (`Ended`); or none was, since the run has
-  -- ended (`Left`), since the event is not permitted any more (`Waited`), or since the team was stopped (`Stopped`)
+  -- ended (`Left`), since the event is not permitted any more (`Waited`), or since a passed word held it (`Stopped`)
   unfoldable pub SaysRecorded : Event → Turn → View S → View S → Type 0
   SaysRecorded e Left v w = HasPlacedNone v w
   SaysRecorded e Placed v w = HasPlaced e v w × (ended e ≡ None)
@@ -51,7 +64,7 @@ module _ {S : Type 0} where
   SaysRecorded e (Out node) v w = ⊥
   SaysRecorded e Waited v w = HasPlacedNone v w × ((y : Why) × (why w.terms.plan w.seen e ≡ Some y))
   SaysRecorded e Rested v w = ⊥
-  SaysRecorded e Stopped v w = HasPlacedNone v w
+  SaysRecorded e Stopped v w = HasPlacedNone v w × WasHeldUp e v w
 
   -- of a run that was to begin: an event that begins one was placed (`Placed`); or none was (`Waited`, `Stopped`), or this node's
   -- Drain is out

@@ -7,12 +7,12 @@ ghost use Rattle.gcd_plan.specs.declared.numbers.Obj.{Obj};
 ghost use Rattle.gcd_row.specs.Passes.{IsPassOf, Says, SaysSlots, slots, view};
 ghost use Rattle.gcd_steal.specs.Drains.{node_of};
 ghost use Rattle.gcd_steal.specs.Racks.{IsBenchOf, IsRackDrain, number_of};
+ghost use Rattle.gcd_pool.specs.Due.{BeginsThere, IsAt, IsThisOr, SaysDue, SaysPut};
 ghost use Rattle.gcd_pool.specs.Duties.{begun_on};
 ghost use Rattle.gcd_pool.specs.Found.{IsLaidDown};
 ghost use Rattle.gcd_pool.specs.Hands.{IsHandOf, IsReady, Serving};
 ghost use Rattle.gcd_pool.specs.Placing.{SaysBegun};
 ghost use Rattle.gcd_pool.specs.Turns.{AfterTurn, LaysFoundDown, SaysOut};
-ghost use Rattle.gcd_pool.specs.Waits.{SaysBarred, SaysWaited};
 ghost use Rattle.gcd_pool.specs.Works.{AddsWork};
 
 use crate::finding::find_drain;
@@ -105,7 +105,7 @@ fn begin_with<S: Slot, R: Wait>(
     ensures serving { Serving S.shape S.gives pool.now hand.old hand.new }
     ensures work { AddsWork (view hand.old.pass) (view hand.new.pass) }
     ensures begun { (node : Obj) → SaysBegun node result (view hand.old.pass) (view hand.new.pass) }
-    ensures barred { SaysBarred result (view hand.old.pass) (view hand.new.pass) }
+    ensures put { SaysPut e result (view hand.old.pass) (view hand.new.pass) }
     ensures after { AfterTurn S.shape result (view hand.new.pass) (slots hand.new.pass) }
     ensures laid { IsLaidDown hand.old.bench drain hand.new.bench }
 {
@@ -152,7 +152,7 @@ pub fn begin_near<S: RunCells, R: Wait>(
     ensures after { AfterTurn S.shape result (view hand.new.pass) (slots hand.new.pass) }
     ensures out { SaysOut result hand.old.bench hand.new.bench }
     ensures laid { LaysFoundDown hand.old.bench hand.new.bench result }
-    ensures waits { SaysWaited result (view hand.old.pass) (view hand.new.pass) hand.old.bench hand.new.bench }
+    ensures due { SaysDue BeginsThere (IsAt node) result (view hand.old.pass) (view hand.new.pass) hand.old.bench hand.new.bench }
 {
     let Some(drain) = find_drain(rt, pool.rack, &mut hand.bench, node) else {
         return Turn::Out(node);
@@ -188,7 +188,7 @@ pub fn begin_chosen<S: RunCells, R: Wait>(
     ensures after { AfterTurn S.shape result (view hand.new.pass) (slots hand.new.pass) }
     ensures out { SaysOut result hand.old.bench hand.new.bench }
     ensures laid { LaysFoundDown hand.old.bench hand.new.bench result }
-    ensures waits { SaysWaited result (view hand.old.pass) (view hand.new.pass) hand.old.bench hand.new.bench }
+    ensures due { SaysDue (IsThisOr e) (IsAt node) result (view hand.old.pass) (view hand.new.pass) hand.old.bench hand.new.bench }
 {
     match pool.rack.wake(&mut hand.bench, node) {
         Some(drain) => begin_with(rt, pool, hand, drain, e),

@@ -13,7 +13,7 @@
 //! | `Begin` | it wakes the Drain of the event's node, and puts the event with it. Where that Drain does not sleep it takes another: the front of its own deque, or else of another's from the next number on and round, or else the node's own if it sleeps by now; with that it begins what may begin on that Drain's node ([`gcd_machine::Machine::begin_on`]). Then it lays the Drain down: at the back of its deque where a block waits on a concurrent queue and the team has another hand, and else asleep |
 //! | `Rest` | it waits ([`Idle`]), and asks again once the row has grown |
 //!
-//! A helper that has no run begins none, and waits, while others' runs begin and end within about a microsecond.
+//! A helper that has no run begins none, and waits, while others' runs begin and end within about a microsecond ([`free_turn`]).
 //!
 //! Worker 0 looks, asks the outside (`gcd_turn`), and puts what was told, an Accept, a Shut, a Tick, an Expire or a Halt. Or else it does
 //! what its machine chooses, as a helper does, and it polls or waits only if that is nothing. If it is the team's only hand it needs no
@@ -59,25 +59,27 @@
 //! |---|---|
 //! | [`duty_of`] | the worker's choice (`choice_of` of `gcd_history`), and to leave exactly where the run has ended |
 //! | [`begin`] | as [`gcd_row::RowBoard::put`]; it asks for the Drain of the event's node |
-//! | [`begin_near`], [`take_turn`] | the hand is still one of the pool; what it adds is work of its worker; of its looks for a Drain at most the last finds one, and that one is laid down, asleep or at the back of the bench's deque (`HasFound` of `specs/Found`, `LaysDown` of `specs/Turns`) |
+//! | [`begin_near`], [`take_turn`], [`free_turn`] | the hand is still one of the pool; what it adds is work of its worker; of its looks for a Drain at most the last finds one, and that one is laid down, asleep or at the back of the bench's deque (`HasFound` of `specs/Found`, `LaysDown` of `specs/Turns`) |
 //! | [`take_turn`], [`free_turn`] | of the worker's own events exactly one is new where the answer is `Placed` or `Ended`, with which no run or one ends, and else none (`SaysPlaced` of `specs/Placing`); where it is `Rested` the run goes on and no event of the worker is permitted (`SaysRested`); where it is `Out` the call wrote to the place of that node's Drain, which did not sleep there (`SaysOut`) |
-//! | [`begin_near`], [`take_turn`], [`free_turn`] | where the answer is `Waited`, an event of the worker that was permitted is not permitted any more, or the row is full, or nothing may begin on the node of a Drain that was found and laid down (`SaysWaited` of `specs/Waits`), or, of `free_turn` alone, the row has three events more than at the last look |
+//! | [`take_turn`] | an event is *due* if it is the worker's choice after what it had seen at the call, or, if that choice begins a run on a node, what the worker may begin then on the node of the Drain that the call found (`IsDue` of `specs/Due`). With `Placed` and `Ended` the event that is new was due. With `Waited` an event that was due and permitted is not permitted any more, or the row is full, or nothing may begin on the node of the Drain that was found. With `Stopped` a passed word held an event that was due (`SaysDue`) |
+//! | [`begin_near`] | the same; what is due is what the worker may begin on the node of the Drain that the call found (`BeginsThere`) |
+//! | [`free_turn`] | the same of what the worker had seen at a moment of the call; or it answers `Waited`, and three events or more came in the call; or `Stopped`, and it is worker 0 (`SaysFree`) |
 //! | [`begin_near`] | it answers `Placed`, with an event that begins a run, `Waited`, `Stopped` or `Out`, of the node that was asked for (`SaysBegun`, `SaysOut`) |
-//! | [`record_own`] | it answers `Placed` or `Ended` where this event is the one that is new; `Left` where the run has ended, `Waited` where the event is not permitted any more, and `Stopped` where the team was stopped, and none is new (`SaysRecorded`) |
+//! | [`record_own`] | it answers `Placed` or `Ended` where this event is the one that is new; `Left` where the run has ended, `Waited` where the event is not permitted any more, and `Stopped` where a passed word held it, and none is new (`SaysRecorded`) |
 //! | [`Crew::serve`] of a [`Pool`] | the hand is still one of the pool, of the same worker and bench, and has seen no less (`Serving` of `specs/Hands`) |
 //! | worker 0's part of [`pool_run`] | the hand is still one of the pool, as for a helper; and if worker 0 is done the hand has seen that the run has ended, all that it has seen is in its journal, and what poller and clock said since any beginning stands in it, if it did before (`Led` of `specs/Leads`, by `GoesOn` of `gcd_loop`) |
 //! | | of each sender the jobs that were taken begin with those of the blocks that were accepted of it, in order, each of which gives only what its job may; they are all of them where the run is neither halted nor full, and where a Shut stands; no sender has another number than the front's; and a Shut stands only where each block of the intake is accepted, or all mouths were shut and all that was sent was taken (`Admitted` of `specs/Admitted`, in `LedWithFront`) |
 //! | [`AdmitCells::lay`] | the slot of the intake's next block has what gives only what the job that was sent may, and nothing else has changed |
-//! | [`pool_run`] | worker 0 has led, and an `Ok` says how the run has ended that it has seen, and that each hand has seen the run to end (`Served`), with the whole run in worker 0's journal, and of the jobs of outside callers what `LedWithFront` says; the hands come back either way, still of the pool; a team of one runs with no thread, and where each event of the row since the call began is worker 0's, each of a worker among them is what worker 0 chooses at its place (`Follows`) |
+//! | [`pool_run`] | worker 0 has led, and an `Ok` says how the run has ended that it has seen, and that each hand has seen the run to end (`Served`), with the whole run in worker 0's journal, and of the jobs of outside callers what `LedWithFront` says; the hands come back either way, still of the pool; of a team of one, if each event of the row since the call began is worker 0's, each of a worker among them is what worker 0 chooses at its place (`Follows`) |
 //!
 //! Worker 0's journal alone takes memory.
 //!
 //! # What it does not say
 //!
-//! That a helper ever places an event, that it has a thread of its own, or that it returns: each turn promises what it leaves. Nor when a
-//! team stops, nor that an `Err` comes of memory or of a thread alone: the flag that tells so is a plain word. So a turn that answers
-//! `Stopped` has no cause in its clauses. That [`begin_near`] and [`take_turn`] find at most one Drain, and lay it down, is a
-//! clause (`LaysDown` of `specs/Turns`); no clause follows a Drain from there.
+//! No clause says that a helper ever places an event, that it has a thread of its own, that a team of one makes no thread, or that a call
+//! returns. No clause says when a team stops. The flag that stops it is a plain word, so the clauses give no cause of an `Err` of
+//! [`pool_run`]. Of a `Stopped` turn they say what held it, and not that memory was refused or that a thread was not made. No clause follows a
+//! Drain from where a call laid it down.
 #![tactic(auto)]
 
 mod admit_cells;

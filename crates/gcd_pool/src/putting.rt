@@ -1,5 +1,5 @@
 // Letting others write over what was seen, and putting an event until no passed word holds it.
-ghost use Rattle.std.specs.Prelude.{◌≡◌, ◌<◌, ◌+◌, length, true, None};
+ghost use Rattle.std.specs.Prelude.{◌≡◌, ◌<◌, ◌+◌, length, true, false, None};
 ghost use Rattle.gcd_history.specs.Choice.{worker_of};
 ghost use Rattle.gcd_history.specs.History.{why};
 ghost use Rattle.gcd_row.specs.Lying.{GivesBack};
@@ -28,6 +28,7 @@ pub fn pass_seen<S: Slot>(pool: &Pool<S>, hand: &mut Hand<S>) -> bool
     ensures bench { hand.new.bench ≡ hand.old.bench }
     ensures passed { result ≡ true → (view hand.new.pass).marks.passed ≡ length (view hand.old.pass).seen }
     ensures whole { result ≡ true → (view hand.old.pass).worker ≡ 0 → hand.new.journal.items ≡ (view hand.old.pass).seen }
+    ensures refused { result ≡ false → (view hand.old.pass).worker ≡ 0 }
 {
     if hand.pass.worker() == 0 {
         match pool.board.gather(&mut hand.pass, &mut hand.journal) {

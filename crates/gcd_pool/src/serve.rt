@@ -1,12 +1,14 @@
 // The turns of a helper.
-ghost use Rattle.std.specs.Prelude.{◌≡◌, ◌⊎◌, ◌+◌, ◌≤◌, ℕ, true, List, length, MatchOption};
+ghost use Rattle.std.specs.Prelude.{◌≡◌, ◌+◌, ◌≤◌, ℕ, true, List, length, MatchOption};
 ghost use Rattle.gcd_history.specs.Ends.{HasEnded};
-ghost use Rattle.gcd_row.specs.Passes.{slots, view};
+ghost use Rattle.gcd_row.specs.Passes.{IsPassOf, slots, view};
 ghost use Rattle.gcd_row.specs.declared.view.View.{View};
+ghost use Rattle.gcd_row.specs.declared.board.RowBoard.{RowBoard};
+ghost use Rattle.gcd_pool.specs.Due.{SaysFree};
 ghost use Rattle.gcd_pool.specs.Hands.{IsFresh, IsReady, Serving};
 ghost use Rattle.gcd_pool.specs.Placing.{HasPlacedNone, SaysPlaced, SaysRested};
-ghost use Rattle.gcd_pool.specs.Turns.{AfterTurn, SaysOut};
-ghost use Rattle.gcd_pool.specs.Waits.{SaysWaited};
+ghost use Rattle.gcd_pool.specs.Turns.{AfterTurn, LaysDown, SaysOut};
+ghost use Rattle.gcd_pool.specs.Works.{AddsWork};
 
 use crate::hand::{Hand, Pool};
 use crate::idle::Idle;
@@ -15,7 +17,7 @@ use crate::run_cells::RunCells;
 use crate::team::Crew;
 use crate::turn::{Turn, take_turn};
 use gcd_plan::Plan;
-use gcd_row::Slot;
+use gcd_row::{RowPass, Slot};
 use std::hint;
 use std::sync::Wait;
 
@@ -99,41 +101,52 @@ fn linger() {
     }
 }
 
+// How many events the pass has seen.
+#[inline(always)]
+fn seen_by<S: Slot>(pass: &RowPass<S>) -> u32
+    ensures { (board : RowBoard S) → IsPassOf S.shape S.gives board pass.now → result ≡ length (view pass.now).seen }
+{
+    pass.machine().len()
+}
+
 // Whether a whole run began and ended while the helper lingered. It has seen the row as it was after that.
-fn are_quick<S: RunCells>(pool: &Pool<S>, hand: &mut Hand<S>, seen: u32) -> bool
+fn are_quick<S: RunCells>(pool: &Pool<S>, hand: &mut Hand<S>) -> bool
     requires { IsReady S.shape S.gives pool.now hand.old }
     ensures serving { Serving S.shape S.gives pool.now hand.old hand.new }
     ensures none { HasPlacedNone (view hand.old.pass) (view hand.new.pass) }
     ensures bench { hand.new.bench ≡ hand.old.bench }
-    ensures quick { result ≡ true → seen + 3 ≤ length (view hand.new.pass).seen }
+    ensures quick { result ≡ true → length (view hand.old.pass).seen + 3 ≤ length (view hand.new.pass).seen }
+    ensures work { AddsWork (view hand.old.pass) (view hand.new.pass) }
     ensures fresh { IsFresh S.shape (view hand.new.pass) (slots hand.new.pass) }
 {
+    let seen = seen_by(&hand.pass);
     linger();
     let now = pool.board.look(&mut hand.pass);
     now.saturating_sub(seen) >= WHOLE_RUN
 }
 
-/// A turn of a helper that has no run, and that had seen so many events when it last looked. It looks again
-/// after about a microsecond, and lets others write over what it has seen ([`Turn::Stopped`] where it has worker 0's pass, and memory
-/// was refused to its journal). Where three events or more have come since, the others' runs are so short that it leaves the row to them,
-/// and answers [`Turn::Waited`]: each event goes through the one row, and one who begins there too only slows the others. Else it is
-/// [`take_turn`]. Condition: the run that the hand holds, if any, is as it was taken.
+/// A turn of a helper that has no run. It looks after about a microsecond, and lets others write over what it has seen. If three events or
+/// more have come by then, the others' runs are so short that it leaves the row to them, and returns [`Turn::Waited`]: each event goes through
+/// the one row, so another worker that begins there only slows the others. Otherwise it is [`take_turn`]. It returns [`Turn::Stopped`] if it
+/// has worker 0's pass and memory is refused to its journal, and as `take_turn` does. Condition: the run that the hand holds, if any, is as it
+/// was taken.
 pub fn free_turn<S: RunCells, R: Wait>(
     rt: &R,
     pool: &Pool<S>,
     hand: &mut Hand<S>,
     from: u32,
-    seen: u32,
 ) -> Turn
     requires { IsReady S.shape S.gives pool.now hand.old }
     ensures serving { Serving S.shape S.gives pool.now hand.old hand.new }
+    ensures work { AddsWork (view hand.old.pass) (view hand.new.pass) }
     ensures placed { SaysPlaced result (view hand.old.pass) (view hand.new.pass) }
     ensures rested { SaysRested result (view hand.new.pass) }
     ensures out { SaysOut result hand.old.bench hand.new.bench }
-    ensures waits { (seen + 3 ≤ length (view hand.new.pass).seen) ⊎ SaysWaited result (view hand.old.pass) (view hand.new.pass) hand.old.bench hand.new.bench }
+    ensures laid { LaysDown hand.old.bench hand.new.bench result }
+    ensures due { SaysFree from result (view hand.old.pass) (view hand.new.pass) hand.old.bench hand.new.bench }
     ensures after { AfterTurn S.shape result (view hand.new.pass) (slots hand.new.pass) }
 {
-    let quick = are_quick(pool, hand, seen);
+    let quick = are_quick(pool, hand);
     if !pass_seen(pool, hand) {
         return Turn::Stopped;
     }
@@ -160,7 +173,7 @@ fn step<S: RunCells, R: Wait>(rt: &R, pool: &Pool<S>, hand: &mut Hand<S>, watch:
         return Turn::Rested;
     }
     if watch.free {
-        return free_turn(rt, pool, hand, watch.from, seen);
+        return free_turn(rt, pool, hand, watch.from);
     }
     take_turn(rt, pool, hand, watch.from)
 }

@@ -1,10 +1,10 @@
 // A turn of a worker.
 ghost use Rattle.std.specs.Prelude.{◌≡◌};
 ghost use Rattle.gcd_row.specs.Passes.{slots, view};
+ghost use Rattle.gcd_pool.specs.Due.{ChoosesOn, IsDue, SaysDue};
 ghost use Rattle.gcd_pool.specs.Hands.{IsReady, Serving};
 ghost use Rattle.gcd_pool.specs.Placing.{SaysPlaced, SaysRested};
 ghost use Rattle.gcd_pool.specs.Turns.{AfterTurn, LaysDown, SaysOut};
-ghost use Rattle.gcd_pool.specs.Waits.{SaysWaited};
 ghost use Rattle.gcd_pool.specs.Works.{AddsWork};
 
 use crate::drains::begin_chosen;
@@ -31,8 +31,8 @@ pub enum Turn {
     Waited,
     /// None was placed: no event of the worker is permitted, though the run goes on.
     Rested,
-    /// None was placed, and the worker leaves: memory was refused to the journal of worker 0, or no thread was made for a worker, so the
-    /// run can't go on. Of the run that the worker holds nothing is said.
+    /// None was placed, and the worker leaves: a passed word holds what it has to put, and memory was refused to the journal of worker 0, or no
+    /// thread was made for a worker, so the run cannot go on. Nothing is said of the run that the worker holds.
     Stopped,
 }
 
@@ -41,7 +41,7 @@ pub enum Turn {
 /// event that begins no run on a node is put by [`record_own`]. One that begins a run is put once where the Drain of its node sleeps:
 /// [`Turn::Placed`], or [`Turn::Waited`] where another event came first or the row is full. Where that Drain does not sleep this is
 /// [`begin_near`](crate::begin_near). Where a passed word holds the event each of them waits, and answers [`Turn::Stopped`] where the run
-/// can't go on. Condition: the run that the hand holds, if any, is as it was taken.
+/// can't go on. `due` says which event it had to put (`SaysDue` of `specs/Due`). Condition: the run that the hand holds, if any, is as it was taken.
 pub fn take_turn<S: RunCells, R: Wait>(
     rt: &R,
     pool: &Pool<S>,
@@ -56,7 +56,7 @@ pub fn take_turn<S: RunCells, R: Wait>(
     ensures after { AfterTurn S.shape result (view hand.new.pass) (slots hand.new.pass) }
     ensures out { SaysOut result hand.old.bench hand.new.bench }
     ensures laid { LaysDown hand.old.bench hand.new.bench result }
-    ensures waits { SaysWaited result (view hand.old.pass) (view hand.new.pass) hand.old.bench hand.new.bench }
+    ensures due { SaysDue (IsDue from) (ChoosesOn from) result (view hand.old.pass) (view hand.new.pass) hand.old.bench hand.new.bench }
 {
     let most = pool.board.most();
     match duty_of(most, hand.pass.machine(), hand.pass.worker(), from) {

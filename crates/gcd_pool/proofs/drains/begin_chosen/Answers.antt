@@ -1,12 +1,13 @@
-use Rattle.std.proofs.Common.{inl, inr, subst, sym}
+use Rattle.std.proofs.Common.{inl, inr, refl, subst, sym}
 use Rattle.gcd_plan.specs.declared.numbers.Obj.{Obj}
 use Rattle.gcd_row.specs.Passes.{view}
 use Rattle.gcd_steal.specs.Drains.{sight_with}
 use Rattle.gcd_steal.specs.Places.{Takes}
 use Rattle.gcd_steal.specs.Racks.{sight_of}
+use Rattle.gcd_pool.specs.Due.{IsAt, IsThisOr}
 use Rattle.gcd_pool.proofs.Found.{found_at_once}
 use Rattle.gcd_pool.proofs.Laid.{lays_after, out_further, with_drain}
-use Rattle.gcd_pool.proofs.Waits.{barred_waits_for, waits_after}
+use Rattle.gcd_pool.proofs.Due.{due_after, put_due}
 use Rattle.gcd_pool.proofs.drains.begin_chosen.Goals as goal
 
 pub returns-in-Some-clause-laid : goal.returns-in-Some-clause-laid
@@ -25,10 +26,11 @@ returns-in-Some-clause-out g c = with_drain c.begin_with.result (view c.args.han
 pub returns-in-None-clause-out : goal.returns-in-None-clause-out
 returns-in-None-clause-out g c = out_further c.begin_near.result c.args.node.0 c.args.hand.now.bench c.wake.new.bench c.begin_near.new.hand.bench c.in-None.ensures.awake.0 c.begin_near.ensures.out
 
-pub returns-in-Some-clause-waits : goal.returns-in-Some-clause-waits
-returns-in-Some-clause-waits g c =
-    barred_waits_for c.begin_with.result (view c.args.hand.now.pass) (view c.begin_with.new.hand.pass) c.args.hand.now.bench c.begin_with.new.hand.bench c.begin_with.ensures.barred
+pub returns-in-Some-clause-due : goal.returns-in-Some-clause-due
+returns-in-Some-clause-due g c =
+    put_due (IsThisOr c.args.e) (IsAt c.args.node) c.args.e c.begin_with.result (view c.args.hand.now.pass) (view c.begin_with.new.hand.pass) c.args.hand.now.bench c.begin_with.new.hand.bench
+    (inl refl) c.requires.worker c.requires.work c.requires.may c.begin_with.ensures.put
 
-pub returns-in-None-clause-waits : goal.returns-in-None-clause-waits
-returns-in-None-clause-waits g c =
-    waits_after c.begin_near.result (view c.args.hand.now.pass) (view c.begin_near.new.hand.pass) c.args.hand.now.bench c.wake.new.bench c.begin_near.new.hand.bench (inr (inr (c.args.node.0, c.wake.ensures.same, c.in-None.ensures.awake.0))) c.begin_near.ensures.waits
+pub returns-in-None-clause-due : goal.returns-in-None-clause-due
+returns-in-None-clause-due g c =
+    due_after c.args.e (IsAt c.args.node) c.begin_near.result (view c.args.hand.now.pass) (view c.begin_near.new.hand.pass) c.args.hand.now.bench c.wake.new.bench c.begin_near.new.hand.bench (inr (inr (c.args.node.0, c.wake.ensures.same, c.in-None.ensures.awake.0))) c.begin_near.ensures.due

@@ -1,12 +1,13 @@
-use Rattle.std.proofs.Common.{◌<◌, ℕ, Some, ap, inl, inr, length, refl, rules, sym, subst, ◌∙◌}
+use Rattle.std.proofs.Common.{◌<◌, ℕ, None, Some, ap, inl, inr, length, refl, rules, sym, subst, ◌∙◌}
 use Rattle.gcd_plan.specs.PlanView.{PlanView}
 use Rattle.gcd_plan.specs.declared.numbers.Obj.{Obj}
 use Rattle.gcd_refinement.specs.MachineView.{MachineView}
 use Rattle.gcd_row.specs.Passes.{view}
+use Rattle.gcd_pool.specs.Due.{BeginsThere, IsAt}
 use Rattle.gcd_pool.proofs.Laid.{missed_out, with_drain}
 use Rattle.gcd_pool.proofs.Placing.{begins_none, begins_out}
-use Rattle.gcd_pool.proofs.Told.{begins_none_there, begins_there, machine_plan}
-use Rattle.gcd_pool.proofs.Waits.{barred_waits_for, none_waits, out_waits, waits_after}
+use Rattle.gcd_pool.proofs.Told.{begin_there, begins_there, machine_plan}
+use Rattle.gcd_pool.proofs.Due.{none_due, out_due, put_due}
 use Rattle.gcd_pool.proofs.drains.begin_near.Goals as goal
 
 pub begin_on-requires : goal.begin_on-requires
@@ -67,15 +68,23 @@ returns-in-None-clause-out g c =
     with_drain _ (view c.args.hand.now.pass) (view c.args.hand.now.pass) c.args.hand.now.bench c.sleep.new.bench
     (λ node. begins_none node (view c.args.hand.now.pass) (view c.args.hand.now.pass) refl)
 
-pub returns-in_default-clause-waits : goal.returns-in_default-clause-waits
-returns-in_default-clause-waits g c = out_waits c.args.node (view c.args.hand.now.pass) (view c.args.hand.now.pass) c.args.hand.now.bench c.find_drain.new.bench
+pub returns-in_default-clause-due : goal.returns-in_default-clause-due
+returns-in_default-clause-due g c = out_due BeginsThere (IsAt c.args.node) c.args.node (view c.args.hand.now.pass) (view c.args.hand.now.pass) c.args.hand.now.bench c.find_drain.new.bench refl
 
-pub returns-in-Some-begin_on-clause-waits : goal.returns-in-Some-begin_on-clause-waits
-returns-in-Some-begin_on-clause-waits g c =
-    barred_waits_for c.begin_with.result (view c.args.hand.now.pass) (view c.begin_with.new.hand.pass) c.args.hand.now.bench c.begin_with.new.hand.bench c.begin_with.ensures.barred
+pub returns-in-Some-begin_on-clause-due : goal.returns-in-Some-begin_on-clause-due
+returns-in-Some-begin_on-clause-due g c =
+    let at = begins_there g.S.Slot.shape g.S.Slot.gives c.args.pool.now.board.now c.args.hand.now.pass c.requires.ready.of.pass c.machine.result.now c.worker-worker.result c.node.result c.in-Some-begin_on.e
+    c.machine.ensures c.worker-worker.ensures c.in-Some-begin_on.ensures in
+    put_due BeginsThere (IsAt c.args.node) c.in-Some-begin_on.e c.begin_with.result (view c.args.hand.now.pass) (view c.begin_with.new.hand.pass) c.args.hand.now.bench c.begin_with.new.hand.bench (
+      record { found = c.find_drain.new.bench; drain = c.in-Some.drain; took = c.in-Some.ensures.found; laid = c.begin_with.ensures.laid },
+      begin_there g.S.Slot.shape g.S.Slot.gives c.args.pool.now.board.now c.args.hand.now.pass c.requires.ready.of.pass c.machine.result.now c.worker-worker.result c.node.result _ (Some c.in-Some-begin_on.e)
+          c.machine.ensures c.worker-worker.ensures c.node.ensures c.in-Some-begin_on.ensures,
+    )
+    at.worker at.work at.may c.begin_with.ensures.put
 
-pub returns-in-None-clause-waits : goal.returns-in-None-clause-waits
-returns-in-None-clause-waits g c =
-    none_waits (view c.args.hand.now.pass) (view c.args.hand.now.pass) c.args.hand.now.bench c.sleep.new.bench
+pub returns-in-None-clause-due : goal.returns-in-None-clause-due
+returns-in-None-clause-due g c =
+    none_due BeginsThere (IsAt c.args.node) c.args.node (view c.args.hand.now.pass) (view c.args.hand.now.pass) c.args.hand.now.bench c.sleep.new.bench refl
     (record { found = c.find_drain.new.bench; drain = c.in-Some.drain; took = c.in-Some.ensures.found; laid = inl (c.sleep.ensures.same, search rules) })
-    (begins_none_there g.S.Slot.shape g.S.Slot.gives c.args.pool.now.board.now c.args.hand.now.pass c.requires.ready.of.pass c.machine.result.now c.worker-worker.result c.node.result _ c.machine.ensures c.worker-worker.ensures c.node.ensures c.in-None.ensures)
+    (begin_there g.S.Slot.shape g.S.Slot.gives c.args.pool.now.board.now c.args.hand.now.pass c.requires.ready.of.pass c.machine.result.now c.worker-worker.result c.node.result _ None
+    c.machine.ensures c.worker-worker.ensures c.node.ensures c.in-None.ensures)

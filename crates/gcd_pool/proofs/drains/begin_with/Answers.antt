@@ -7,7 +7,7 @@ use Rattle.gcd_pool.specs.Throughs.{SaysThrough}
 use Rattle.gcd_pool.proofs.Throughs.{barred_none, full_none, held_none, outcome_adds, outcome_fresh, placed_one}
 use Rattle.gcd_pool.proofs.Placing.{begins_none, begins_one, begins_stopped}
 use Rattle.gcd_pool.proofs.Told.{machine_plan}
-use Rattle.gcd_pool.proofs.Waits.{placed_unbarred, put_barred_says, put_full_says, stopped_unbarred}
+use Rattle.gcd_pool.proofs.Due.{barred_put, full_put, held_put, placed_put}
 use Rattle.gcd_pool.proofs.drains.begin_with.Goals as goal
 
 pub others_may_begin-more-requires-clause-plan : goal.others_may_begin-more-requires-clause-plan
@@ -69,18 +69,22 @@ returns-in-Held-clause-begun g c = λ node.
     let said = subst (λ (o : Put). SaysThrough g.S.Slot.shape g.S.Slot.gives c.args.pool.now.board.now c.args.e c.args.hand.now.pass c.put_chosen_through.new.hand.pass o) c.in-Held.is c.put_chosen_through.ensures.said in
     begins_stopped node (view c.args.hand.now.pass) (view c.put_chosen_through.new.hand.pass) (held_none g.S.Slot.shape g.S.Slot.gives c.args.pool.now.board.now c.args.e c.args.hand.now.pass c.put_chosen_through.new.hand.pass c.in-Held.by c.in-Held.passed said)
 
-pub returns-in-Placed-clause-barred : goal.returns-in-Placed-clause-barred
-returns-in-Placed-clause-barred g c = placed_unbarred (view c.args.hand.now.pass) (view c.put_chosen_through.new.hand.pass)
+pub returns-in-Placed-clause-put : goal.returns-in-Placed-clause-put
+returns-in-Placed-clause-put g c =
+    let said = subst (λ (o : Put). SaysThrough g.S.Slot.shape g.S.Slot.gives c.args.pool.now.board.now c.args.e c.args.hand.now.pass c.put_chosen_through.new.hand.pass o) c.in-Placed.is c.put_chosen_through.ensures.said in
+    placed_put g.S.Slot.shape g.S.Slot.gives c.args.pool.now.board.now c.args.e c.args.hand.now.pass c.put_chosen_through.new.hand.pass c.in-Placed.field-0 said
 
-pub returns-in-Held-clause-barred : goal.returns-in-Held-clause-barred
-returns-in-Held-clause-barred g c = stopped_unbarred (view c.args.hand.now.pass) (view c.put_chosen_through.new.hand.pass)
-
-pub returns-in-Barred-clause-barred : goal.returns-in-Barred-clause-barred
-returns-in-Barred-clause-barred g c =
+pub returns-in-Barred-clause-put : goal.returns-in-Barred-clause-put
+returns-in-Barred-clause-put g c =
     let said = subst (λ (o : Put). SaysThrough g.S.Slot.shape g.S.Slot.gives c.args.pool.now.board.now c.args.e c.args.hand.now.pass c.put_chosen_through.new.hand.pass o) c.in-Barred.is c.put_chosen_through.ensures.said in
-    put_barred_says g.S.Slot.shape g.S.Slot.gives c.args.pool.now.board.now c.args.e c.args.hand.now.pass c.put_chosen_through.new.hand.pass c.in-Barred.at c.in-Barred.why c.requires.worker c.requires.may c.put_chosen_through.ensures.serving.view said
+    barred_put g.S.Slot.shape g.S.Slot.gives c.args.pool.now.board.now c.args.e c.args.hand.now.pass c.put_chosen_through.new.hand.pass c.in-Barred.at c.in-Barred.why c.put_chosen_through.ensures.serving.view said
 
-pub returns-in-Full-clause-barred : goal.returns-in-Full-clause-barred
-returns-in-Full-clause-barred g c =
+pub returns-in-Full-clause-put : goal.returns-in-Full-clause-put
+returns-in-Full-clause-put g c =
     let said = subst (λ (o : Put). SaysThrough g.S.Slot.shape g.S.Slot.gives c.args.pool.now.board.now c.args.e c.args.hand.now.pass c.put_chosen_through.new.hand.pass o) c.in-Full.is c.put_chosen_through.ensures.said in
-    put_full_says g.S.Slot.shape g.S.Slot.gives c.args.pool.now.board.now c.args.e c.args.hand.now.pass c.put_chosen_through.new.hand.pass said
+    full_put g.S.Slot.shape g.S.Slot.gives c.args.pool.now.board.now c.args.e c.args.hand.now.pass c.put_chosen_through.new.hand.pass said
+
+pub returns-in-Held-clause-put : goal.returns-in-Held-clause-put
+returns-in-Held-clause-put g c =
+    let said = subst (λ (o : Put). SaysThrough g.S.Slot.shape g.S.Slot.gives c.args.pool.now.board.now c.args.e c.args.hand.now.pass c.put_chosen_through.new.hand.pass o) c.in-Held.is c.put_chosen_through.ensures.said in
+    held_put g.S.Slot.shape g.S.Slot.gives c.args.pool.now.board.now c.args.e c.args.hand.now.pass c.put_chosen_through.new.hand.pass c.in-Held.by c.in-Held.passed said
