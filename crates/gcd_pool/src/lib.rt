@@ -78,8 +78,8 @@
 //!
 //! No clause says that a helper ever places an event, that it has a thread of its own, that a team of one makes no thread, or that a call
 //! returns. No clause says when a team stops. The flag that stops it is a plain word, so the clauses give no cause of an `Err` of
-//! [`pool_run`]. Of a `Stopped` turn they say what held it, and not that memory was refused or that a thread was not made. No clause follows a
-//! Drain from where a call laid it down.
+//! [`pool_run`]. Of a `Stopped` turn they say that a passed word held its event, or that it is worker 0's, and not that memory was refused or
+//! that no thread was made. No clause follows a Drain from where a call laid it down.
 #![tactic(auto)]
 
 mod admit_cells;

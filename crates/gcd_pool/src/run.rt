@@ -65,8 +65,8 @@ fn see_the_ends<S: Slot, R: Wait>(rt: &R, pool: &Pool<S>, hands: &mut Vec<Hand<S
 /// and pushes no Drain. If each event that its row has more than before the call is worker 0's, it follows the choice of its machine there.
 ///
 /// The result tells how the run has ended. Worker 0 has seen the whole row then, and has it in its journal: only a Halt could follow, and
-/// only worker 0 puts a Halt. Returns `Err` only if the journal was refused memory, or no thread was made for a worker. Then worker 0 leaves,
-/// the others leave when they have nothing to do or are held, and each hand is still one of the pool.
+/// only worker 0 puts a Halt. Returns `Err` if the journal was refused memory, or no thread was made for a worker; no clause gives this cause.
+/// Then worker 0 leaves, the others leave when they have nothing to do or are held, and each hand is still one of the pool.
 ///
 /// Worker 0's front has at most 64 senders, and the intake is of this front. The jobs that it has taken of a sender are those of the blocks
 /// that were accepted of it (`Admitted` of `specs/Admitted`). Before the first event, an intake that has taken nothing is enough. A job that

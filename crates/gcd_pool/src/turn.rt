@@ -31,8 +31,8 @@ pub enum Turn {
     Waited,
     /// None was placed: no event of the worker is permitted, though the run goes on.
     Rested,
-    /// None was placed, and the worker leaves: a passed word holds what it has to put, and memory was refused to the journal of worker 0, or no
-    /// thread was made for a worker, so the run cannot go on. Nothing is said of the run that the worker holds.
+    /// None was placed, and the worker leaves, because the run cannot go on: memory was refused to the journal of worker 0, or no thread was
+    /// made for a worker. Nothing is said of the run that the worker holds.
     Stopped,
 }
 
@@ -41,7 +41,8 @@ pub enum Turn {
 /// event that begins no run on a node is put by [`record_own`]. One that begins a run is put once where the Drain of its node sleeps:
 /// [`Turn::Placed`], or [`Turn::Waited`] where another event came first or the row is full. Where that Drain does not sleep this is
 /// [`begin_near`](crate::begin_near). Where a passed word holds the event each of them waits, and answers [`Turn::Stopped`] where the run
-/// can't go on. `due` says which event it had to put (`SaysDue` of `specs/Due`). Condition: the run that the hand holds, if any, is as it was taken.
+/// can't go on. `due` says which event it had to put (`SaysDue` of `specs/Due`). Condition: the run that the hand holds, if any, is as it
+/// was taken.
 pub fn take_turn<S: RunCells, R: Wait>(
     rt: &R,
     pool: &Pool<S>,
