@@ -2,13 +2,13 @@
 use Rattle.std.specs.Prelude.{◌≡◌, List, [], ◌∷◌, ◌++◌, None, IfSome}
 use Rattle.gcd_plan.specs.declared.act.Act.{Act}
 use Rattle.gcd_builder.specs.Changes.{with_act}
-use Rattle.gcd_builder.specs.Refusals.{MayAct, Refuses, with_plan}
+use Rattle.gcd_builder.specs.Refusals.{Adds, MayAct, Refuses}
 use Rattle.gcd_builder.specs.declared.body.Body.{Body}
 
 -- the act is added to a chain of which no act was refused, or is the first that is refused; behind a refused one nothing changes
 pub record Goes (act : Act) (old new : Body) : Type 0 where
   pub first : new.fault ≡ None → old.fault ≡ None
-  pub added : new.fault ≡ None → new.builder.now ≡ with_plan (with_act act old.run old.builder.now.plan)
+  pub added : new.fault ≡ None → Adds old.builder.now new.builder.now (with_act act old.run old.builder.now.plan)
   pub fits : new.fault ≡ None → MayAct old.builder.now.plan old.run act
   pub refused : old.fault ≡ None → IfSome new.fault (Refuses old.builder.now new.builder.now)
   pub kept : IfSome old.fault (λ _. new.fault ≡ old.fault)

@@ -85,7 +85,7 @@ with_cancel s b plan = with_object_at s.0 (λ object. record object { cancel = S
 abbrev pub new_intake : (queue : Obj) → (count : ℕ) → PlanView → IntakeView
 new_intake queue count plan = record { queue = queue; first = length plan.blocks; count = count }
 
--- the same of a strip (dispatch_apply(3))
+-- a strip as it is declared: its blocks come behind the others (dispatch_apply(3))
 abbrev pub new_strip : (name : List ℕ) → How → (file len count : ℕ) → PlanView → StripView
 new_strip name how file len count plan =
     record { name = name; how = how; file = file; len = len; first = length plan.blocks; count = count }

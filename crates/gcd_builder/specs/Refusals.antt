@@ -108,6 +108,11 @@ pub record BuilderView : Type 0 where
 abbrev pub with_plan : PlanView → BuilderView
 with_plan plan = record { plan = plan; spent = false }
 
+-- how a call ends that adds something: the builder had its memory, and has this plan
+pub record Adds (old new : BuilderView) (plan : PlanView) : Type 0 where
+  pub unspent : old.spent ≡ false
+  pub plan_is : new ≡ with_plan plan
+
 -- how a call ends that adds nothing
 pub data Refuses (old new : BuilderView) : BuildFault → Type 0 where
   -- the fault is of a broken rule, and the builder, which has its memory, is as before

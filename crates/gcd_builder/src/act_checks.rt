@@ -28,7 +28,7 @@ impl<'a> PlanDraft<'a> {
         self.check_block(b)
     }
 
-    // The same of a submission for a group.
+    // Tests a group, and a queue and a block of a submission for it.
     fn check_grouped(&self, g: Obj, q: Obj, b: Blk) -> Result<(), BuildFault<'a>>
         requires { IsPlan (view_of self.now.parts) }
         ensures fits { IfOk result (λ _. (has_kind is_group_kind (view_of self.now.parts) g.0
@@ -39,7 +39,7 @@ impl<'a> PlanDraft<'a> {
         self.check_submission(q, b)
     }
 
-    // The same of a submission at the end of a block.
+    // Tests a block, and a queue and another block that is submitted when the first ends.
     fn check_noted(&self, b: Blk, q: Obj, c: Blk) -> Result<(), BuildFault<'a>>
         requires { IsPlan (view_of self.now.parts) }
         ensures fits { IfOk result (λ _. (is_declared (view_of self.now.parts) b

@@ -1,5 +1,5 @@
 // A builder of plans.
-ghost use Rattle.std.specs.Prelude.{◌≡◌, true, false, IfErr, IfOk};
+ghost use Rattle.std.specs.Prelude.{◌≡◌, true, false, IfErr, IfOk, OnOk};
 ghost use Rattle.gcd_plan.specs.Validity.{IsPlan};
 ghost use Rattle.gcd_builder.specs.Changes.{empty_plan};
 ghost use Rattle.gcd_builder.specs.Refusals.{with_plan};
@@ -19,7 +19,7 @@ const FIRST_NAMES: usize = 64;
 /// lives (this project's own rule).
 ///
 /// A call that returns a [`BuildFault`] other than [`BuildFault::Memory`] leaves the builder as it was. After
-/// [`BuildFault::Memory`] each later call returns that again.
+/// [`BuildFault::Memory`] each later call that adds something, and [`PlanBuilder::finish`], returns that again.
 #[derive(Drop)]
 pub struct PlanBuilder<'a> {
     pub(crate) alloc: Global,
@@ -57,6 +57,7 @@ impl<'a> PlanBuilder<'a> {
     /// Returns the plan of what was added, whose copies share its parts. An `Err` comes only where memory runs out, or ran out
     /// in an earlier call, and is [`BuildFault::Memory`] (this project's own rule).
     pub fn finish(self) -> Result<Plan, BuildFault<'a>>
+        ensures unspent { OnOk result (self.entry.spent ≡ false) }
         ensures plan { IfOk result (λ plan. plan ≡ self.entry.plan) }
         ensures valid { IfOk result IsPlan }
         ensures refused { IfErr result (λ fault. fault ≡ Memory) }

@@ -226,7 +226,7 @@ impl<'a> PlanDraft<'a> {
         Ok(())
     }
 
-    // The same of a block's work, if it has one.
+    // Tests a block's work, if it has one.
     fn check_work_of(&self, work: Option<Work>) -> Result<(), BuildFault<'a>>
         ensures fits { IfOk result (λ _. option_map_or (is_work (view_of self.now.parts)) work true ≡ true) }
         ensures broken { IfErr result (Breaks (view_of self.now.parts)) }

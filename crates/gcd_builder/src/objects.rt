@@ -2,7 +2,7 @@
 ghost use Rattle.std.specs.Prelude.{◌≡◌, [], false, true, length, IfErr, IfOk, OnOk};
 ghost use Rattle.gcd_plan.specs.declared.kind.Kind.TheVariants.{Group, Semaphore, Timer, Read};
 ghost use Rattle.gcd_builder.specs.Changes.{new_object, root, with_object};
-ghost use Rattle.gcd_builder.specs.Refusals.{MayAddObject, Refuses, with_plan};
+ghost use Rattle.gcd_builder.specs.Refusals.{Adds, MayAddObject, Refuses};
 
 use crate::builder::PlanBuilder;
 use crate::fault::BuildFault;
@@ -11,8 +11,32 @@ use gcd_plan::{Kind, Obj};
 const ROOT: Obj = Obj(0);
 
 impl<'a> PlanBuilder<'a> {
+    // Adds an object that was tested.
+    #[tactic(auto, using(crate::proofs::Refused::by_memory, crate::proofs::Steps::object_stays))]
+    fn put_object(
+        &mut self,
+        name: &'a str,
+        kind: Kind,
+        target: Obj,
+        active: bool,
+        path: &'a str,
+    ) -> Result<Obj, BuildFault<'a>>
+        requires unspent { self.old.spent ≡ false }
+        requires fits { MayAddObject self.old.plan (new_object name.now kind target active path.now) }
+        ensures added { OnOk result (Adds self.old self.new (with_object (new_object name.now kind target active path.now) self.old.plan)) }
+        ensures number { IfOk result (λ o. o.0 ≡ length self.old.plan.objects) }
+        ensures refused { IfErr result (Refuses self.old self.new) }
+    {
+        self.spent = true;
+        let object = self
+            .draft
+            .add_object(self.alloc, name, kind, target, active, path)?;
+        self.spent = false;
+        Ok(object)
+    }
+
     // Adds a queue.
-    #[tactic(auto, using(crate::proofs::Refused::by_rule, crate::proofs::Refused::by_memory, crate::proofs::Steps::object_stays))]
+    #[tactic(auto, using(crate::proofs::Refused::by_rule))]
     fn add_queue(
         &mut self,
         name: &'a str,
@@ -20,7 +44,7 @@ impl<'a> PlanBuilder<'a> {
         target: Obj,
         active: bool,
     ) -> Result<Obj, BuildFault<'a>>
-        ensures added { OnOk result (self.new ≡ with_plan (with_object (new_object name.now kind target active []) self.old.plan)) }
+        ensures added { OnOk result (Adds self.old self.new (with_object (new_object name.now kind target active []) self.old.plan)) }
         ensures number { IfOk result (λ o. o.0 ≡ length self.old.plan.objects) }
         ensures fits { OnOk result (MayAddObject self.old.plan (new_object name.now kind target active [])) }
         ensures refused { IfErr result (Refuses self.old self.new) }
@@ -29,17 +53,12 @@ impl<'a> PlanBuilder<'a> {
             return Err(BuildFault::Memory);
         }
         self.draft.check_queue(name, kind, target, active)?;
-        self.spent = true;
-        let queue = self
-            .draft
-            .add_object(self.alloc, name, kind, target, active, "")?;
-        self.spent = false;
-        Ok(queue)
+        self.put_object(name, kind, target, active, "")
     }
 
     /// Adds an active queue on `root` of this kind, serial or concurrent (dispatch_queue_create(3)).
     pub fn queue(&mut self, name: &'a str, kind: Kind) -> Result<Obj, BuildFault<'a>>
-        ensures added { OnOk result (self.new ≡ with_plan (with_object (new_object name.now kind root true []) self.old.plan)) }
+        ensures added { OnOk result (Adds self.old self.new (with_object (new_object name.now kind root true []) self.old.plan)) }
         ensures number { IfOk result (λ o. o.0 ≡ length self.old.plan.objects) }
         ensures fits { OnOk result (MayAddObject self.old.plan (new_object name.now kind root true [])) }
         ensures refused { IfErr result (Refuses self.old self.new) }
@@ -54,7 +73,7 @@ impl<'a> PlanBuilder<'a> {
         kind: Kind,
         target: Obj,
     ) -> Result<Obj, BuildFault<'a>>
-        ensures added { OnOk result (self.new ≡ with_plan (with_object (new_object name.now kind target true []) self.old.plan)) }
+        ensures added { OnOk result (Adds self.old self.new (with_object (new_object name.now kind target true []) self.old.plan)) }
         ensures number { IfOk result (λ o. o.0 ≡ length self.old.plan.objects) }
         ensures fits { OnOk result (MayAddObject self.old.plan (new_object name.now kind target true [])) }
         ensures refused { IfErr result (Refuses self.old self.new) }
@@ -69,7 +88,7 @@ impl<'a> PlanBuilder<'a> {
         kind: Kind,
         target: Obj,
     ) -> Result<Obj, BuildFault<'a>>
-        ensures added { OnOk result (self.new ≡ with_plan (with_object (new_object name.now kind target false []) self.old.plan)) }
+        ensures added { OnOk result (Adds self.old self.new (with_object (new_object name.now kind target false []) self.old.plan)) }
         ensures number { IfOk result (λ o. o.0 ≡ length self.old.plan.objects) }
         ensures fits { OnOk result (MayAddObject self.old.plan (new_object name.now kind target false [])) }
         ensures refused { IfErr result (Refuses self.old self.new) }
@@ -78,9 +97,9 @@ impl<'a> PlanBuilder<'a> {
     }
 
     /// Adds a group (dispatch_group_create(3)).
-    #[tactic(auto, using(crate::proofs::Refused::by_rule, crate::proofs::Refused::by_memory, crate::proofs::Steps::object_stays))]
+    #[tactic(auto, using(crate::proofs::Refused::by_rule))]
     pub fn group(&mut self, name: &'a str) -> Result<Obj, BuildFault<'a>>
-        ensures added { OnOk result (self.new ≡ with_plan (with_object (new_object name.now Group root true []) self.old.plan)) }
+        ensures added { OnOk result (Adds self.old self.new (with_object (new_object name.now Group root true []) self.old.plan)) }
         ensures number { IfOk result (λ o. o.0 ≡ length self.old.plan.objects) }
         ensures fits { OnOk result (MayAddObject self.old.plan (new_object name.now Group root true [])) }
         ensures refused { IfErr result (Refuses self.old self.new) }
@@ -89,18 +108,13 @@ impl<'a> PlanBuilder<'a> {
             return Err(BuildFault::Memory);
         }
         self.draft.check_group(name)?;
-        self.spent = true;
-        let group = self
-            .draft
-            .add_object(self.alloc, name, Kind::Group, ROOT, true, "")?;
-        self.spent = false;
-        Ok(group)
+        self.put_object(name, Kind::Group, ROOT, true, "")
     }
 
     /// Adds a semaphore with this first value, at most [`gcd_plan::MAX_VALUE`] (dispatch_semaphore_create(3)).
-    #[tactic(auto, using(crate::proofs::Refused::by_rule, crate::proofs::Refused::by_memory, crate::proofs::Steps::object_stays))]
+    #[tactic(auto, using(crate::proofs::Refused::by_rule))]
     pub fn semaphore(&mut self, name: &'a str, first: u32) -> Result<Obj, BuildFault<'a>>
-        ensures added { OnOk result (self.new ≡ with_plan (with_object (new_object name.now (Semaphore first) root true []) self.old.plan)) }
+        ensures added { OnOk result (Adds self.old self.new (with_object (new_object name.now (Semaphore first) root true []) self.old.plan)) }
         ensures number { IfOk result (λ o. o.0 ≡ length self.old.plan.objects) }
         ensures fits { OnOk result (MayAddObject self.old.plan (new_object name.now (Semaphore first) root true [])) }
         ensures refused { IfErr result (Refuses self.old self.new) }
@@ -109,20 +123,14 @@ impl<'a> PlanBuilder<'a> {
             return Err(BuildFault::Memory);
         }
         self.draft.check_semaphore(name, first)?;
-        let kind = Kind::Semaphore(first);
-        self.spent = true;
-        let semaphore = self
-            .draft
-            .add_object(self.alloc, name, kind, ROOT, true, "")?;
-        self.spent = false;
-        Ok(semaphore)
+        self.put_object(name, Kind::Semaphore(first), ROOT, true, "")
     }
 
     /// Adds an inactive source of merged values of this kind, add, or or replace, on this target queue
     /// (dispatch_source_create(3)).
-    #[tactic(auto, using(crate::proofs::Refused::by_rule, crate::proofs::Refused::by_memory, crate::proofs::Steps::object_stays))]
+    #[tactic(auto, using(crate::proofs::Refused::by_rule))]
     pub fn source(&mut self, name: &'a str, kind: Kind, target: Obj) -> Result<Obj, BuildFault<'a>>
-        ensures added { OnOk result (self.new ≡ with_plan (with_object (new_object name.now kind target false []) self.old.plan)) }
+        ensures added { OnOk result (Adds self.old self.new (with_object (new_object name.now kind target false []) self.old.plan)) }
         ensures number { IfOk result (λ o. o.0 ≡ length self.old.plan.objects) }
         ensures fits { OnOk result (MayAddObject self.old.plan (new_object name.now kind target false [])) }
         ensures refused { IfErr result (Refuses self.old self.new) }
@@ -131,17 +139,12 @@ impl<'a> PlanBuilder<'a> {
             return Err(BuildFault::Memory);
         }
         self.draft.check_source(name, kind, target)?;
-        self.spent = true;
-        let source = self
-            .draft
-            .add_object(self.alloc, name, kind, target, false, "")?;
-        self.spent = false;
-        Ok(source)
+        self.put_object(name, kind, target, false, "")
     }
 
     /// Adds an inactive timer on this target queue. Its first due time and its interval are milliseconds, from 1 to
     /// [`gcd_plan::MAX_TIME`] (dispatch_source_set_timer(3)).
-    #[tactic(auto, using(crate::proofs::Refused::by_rule, crate::proofs::Refused::by_memory, crate::proofs::Steps::object_stays))]
+    #[tactic(auto, using(crate::proofs::Refused::by_rule))]
     pub fn timer(
         &mut self,
         name: &'a str,
@@ -149,7 +152,7 @@ impl<'a> PlanBuilder<'a> {
         every: u32,
         target: Obj,
     ) -> Result<Obj, BuildFault<'a>>
-        ensures added { OnOk result (self.new ≡ with_plan (with_object (new_object name.now (Timer start every) target false []) self.old.plan)) }
+        ensures added { OnOk result (Adds self.old self.new (with_object (new_object name.now (Timer start every) target false []) self.old.plan)) }
         ensures number { IfOk result (λ o. o.0 ≡ length self.old.plan.objects) }
         ensures fits { OnOk result (MayAddObject self.old.plan (new_object name.now (Timer start every) target false [])) }
         ensures refused { IfErr result (Refuses self.old self.new) }
@@ -158,24 +161,18 @@ impl<'a> PlanBuilder<'a> {
             return Err(BuildFault::Memory);
         }
         self.draft.check_timer(name, start, every, target)?;
-        let kind = Kind::Timer { start, every };
-        self.spent = true;
-        let timer = self
-            .draft
-            .add_object(self.alloc, name, kind, target, false, "")?;
-        self.spent = false;
-        Ok(timer)
+        self.put_object(name, Kind::Timer { start, every }, target, false, "")
     }
 
     /// Adds an inactive source that reads the feed of this path, on this target queue (dispatch_source_create(3)).
-    #[tactic(auto, using(crate::proofs::Refused::by_rule, crate::proofs::Refused::by_memory, crate::proofs::Steps::object_stays))]
+    #[tactic(auto, using(crate::proofs::Refused::by_rule))]
     pub fn read_source(
         &mut self,
         name: &'a str,
         path: &'a str,
         target: Obj,
     ) -> Result<Obj, BuildFault<'a>>
-        ensures added { OnOk result (self.new ≡ with_plan (with_object (new_object name.now Read target false path.now) self.old.plan)) }
+        ensures added { OnOk result (Adds self.old self.new (with_object (new_object name.now Read target false path.now) self.old.plan)) }
         ensures number { IfOk result (λ o. o.0 ≡ length self.old.plan.objects) }
         ensures fits { OnOk result (MayAddObject self.old.plan (new_object name.now Read target false path.now)) }
         ensures refused { IfErr result (Refuses self.old self.new) }
@@ -184,11 +181,6 @@ impl<'a> PlanBuilder<'a> {
             return Err(BuildFault::Memory);
         }
         self.draft.check_read(name, path, target)?;
-        self.spent = true;
-        let source = self
-            .draft
-            .add_object(self.alloc, name, Kind::Read, target, false, path)?;
-        self.spent = false;
-        Ok(source)
+        self.put_object(name, Kind::Read, target, false, path)
     }
 }

@@ -2,7 +2,7 @@
 ghost use Rattle.std.specs.Prelude.{◌≡◌, ◌≤◌, ◌+◌, None, length, IfErr, IfOk, OnOk};
 ghost use Rattle.gcd_plan.specs.Limits.{max_time};
 ghost use Rattle.gcd_builder.specs.Changes.{new_block, new_file, new_intake, new_strip, with_act, with_block, with_cancel, with_file, with_intake, with_strip, with_until};
-ghost use Rattle.gcd_builder.specs.Refusals.{MayAct, MayAddBlock, MayAddFile, MayAddIntake, MayAddStrip, MayCancel, Refuses, with_plan};
+ghost use Rattle.gcd_builder.specs.Refusals.{Adds, MayAct, MayAddBlock, MayAddFile, MayAddIntake, MayAddStrip, MayCancel, Refuses};
 
 use crate::builder::PlanBuilder;
 use crate::fault::BuildFault;
@@ -13,7 +13,7 @@ impl<'a> PlanBuilder<'a> {
     /// the files, from 1 (this project's own rule).
     #[tactic(auto, using(crate::proofs::Refused::by_rule, crate::proofs::Refused::by_memory, crate::proofs::Steps::file_stays))]
     pub fn file(&mut self, name: &'a str, path: &'a str) -> Result<u32, BuildFault<'a>>
-        ensures added { OnOk result (self.new ≡ with_plan (with_file (new_file (length self.old.plan.files + 1) name.now path.now) self.old.plan)) }
+        ensures added { OnOk result (Adds self.old self.new (with_file (new_file (length self.old.plan.files + 1) name.now path.now) self.old.plan)) }
         ensures number { IfOk result (λ f. f ≡ length self.old.plan.files) }
         ensures fits { OnOk result (MayAddFile self.old.plan name.now path.now) }
         ensures refused { IfErr result (Refuses self.old self.new) }
@@ -32,7 +32,7 @@ impl<'a> PlanBuilder<'a> {
     /// Adds a block with this work, or with none, behind all blocks. It has no act yet (this project's own rule).
     #[tactic(auto, using(crate::proofs::Refused::by_rule, crate::proofs::Refused::by_memory, crate::proofs::Steps::block_stays))]
     pub fn work_block(&mut self, name: &'a str, work: Option<Work>) -> Result<Blk, BuildFault<'a>>
-        ensures added { OnOk result (self.new ≡ with_plan (with_block (new_block name.now work) self.old.plan)) }
+        ensures added { OnOk result (Adds self.old self.new (with_block (new_block name.now work) self.old.plan)) }
         ensures number { IfOk result (λ b. b.0 ≡ length self.old.plan.blocks) }
         ensures fits { OnOk result (MayAddBlock self.old.plan name.now work) }
         ensures refused { IfErr result (Refuses self.old self.new) }
@@ -49,7 +49,7 @@ impl<'a> PlanBuilder<'a> {
 
     /// Adds a block without a work, behind all blocks. It has no act yet (this project's own rule).
     pub fn block(&mut self, name: &'a str) -> Result<Blk, BuildFault<'a>>
-        ensures added { OnOk result (self.new ≡ with_plan (with_block (new_block name.now None) self.old.plan)) }
+        ensures added { OnOk result (Adds self.old self.new (with_block (new_block name.now None) self.old.plan)) }
         ensures number { IfOk result (λ b. b.0 ≡ length self.old.plan.blocks) }
         ensures fits { OnOk result (MayAddBlock self.old.plan name.now None) }
         ensures refused { IfErr result (Refuses self.old self.new) }
@@ -61,7 +61,7 @@ impl<'a> PlanBuilder<'a> {
     /// [`gcd_plan::DEFAULT_UNTIL`] (this project's own rule).
     #[tactic(auto, using(crate::proofs::Refused::by_rule, crate::proofs::Refused::by_memory, crate::proofs::Steps::until_stays))]
     pub fn until(&mut self, ms: u32) -> Result<(), BuildFault<'a>>
-        ensures added { OnOk result (self.new ≡ with_plan (with_until ms self.old.plan)) }
+        ensures added { OnOk result (Adds self.old self.new (with_until ms self.old.plan)) }
         ensures fits { OnOk result ((1 ≤ ms) × (ms ≤ max_time)) }
         ensures refused { IfErr result (Refuses self.old self.new) }
     {
@@ -76,7 +76,7 @@ impl<'a> PlanBuilder<'a> {
     /// Makes the block the cancellation block of the source, and so submits it (dispatch_source_set_cancel_handler(3)).
     #[tactic(auto, using(crate::proofs::Refused::by_rule, crate::proofs::Refused::by_memory, crate::proofs::Steps::cancel_stays))]
     pub fn cancel_block(&mut self, source: Obj, block: Blk) -> Result<(), BuildFault<'a>>
-        ensures added { OnOk result (self.new ≡ with_plan (with_cancel source block self.old.plan)) }
+        ensures added { OnOk result (Adds self.old self.new (with_cancel source block self.old.plan)) }
         ensures fits { OnOk result (MayCancel self.old.plan source block) }
         ensures refused { IfErr result (Refuses self.old self.new) }
     {
@@ -92,7 +92,7 @@ impl<'a> PlanBuilder<'a> {
     /// (this project's own rule).
     #[tactic(auto, using(crate::proofs::Refused::by_rule, crate::proofs::Refused::by_memory, crate::proofs::Steps::intake_stays))]
     pub fn intake(&mut self, queue: Obj, count: u32) -> Result<(), BuildFault<'a>>
-        ensures added { OnOk result (self.new ≡ with_plan (with_intake (new_intake queue count self.old.plan) self.old.plan)) }
+        ensures added { OnOk result (Adds self.old self.new (with_intake (new_intake queue count self.old.plan) self.old.plan)) }
         ensures fits { OnOk result (MayAddIntake self.old.plan queue count) }
         ensures refused { IfErr result (Refuses self.old self.new) }
     {
@@ -117,7 +117,7 @@ impl<'a> PlanBuilder<'a> {
         len: u32,
         count: u32,
     ) -> Result<u32, BuildFault<'a>>
-        ensures added { OnOk result (self.new ≡ with_plan (with_strip (new_strip name.now how file len count self.old.plan) self.old.plan)) }
+        ensures added { OnOk result (Adds self.old self.new (with_strip (new_strip name.now how file len count self.old.plan) self.old.plan)) }
         ensures number { IfOk result (λ a. a ≡ length self.old.plan.strips) }
         ensures fits { OnOk result (MayAddStrip self.old.plan name.now how file len count) }
         ensures refused { IfErr result (Refuses self.old self.new) }
@@ -137,7 +137,7 @@ impl<'a> PlanBuilder<'a> {
     /// Adds an act at the end of the acts of a block, or of a source's handler (dispatch_source_set_event_handler(3)).
     #[tactic(auto, using(crate::proofs::Refused::by_rule, crate::proofs::Refused::by_memory, crate::proofs::Steps::act_stays))]
     pub fn act(&mut self, run: Run, act: Act) -> Result<(), BuildFault<'a>>
-        ensures added { OnOk result (self.new ≡ with_plan (with_act act run self.old.plan)) }
+        ensures added { OnOk result (Adds self.old self.new (with_act act run self.old.plan)) }
         ensures fits { OnOk result (MayAct self.old.plan run act) }
         ensures refused { IfErr result (Refuses self.old self.new) }
     {

@@ -95,7 +95,7 @@ impl<'a> PlanDraft<'a> {
         !self.submitted.get(b.0 as usize).copied().unwrap_or(false)
     }
 
-    // The same of the block that an act submits, if it submits one.
+    // Whether nothing submits the block of the act yet; true if the act submits none.
     fn submits_free(&self, act: Act) -> bool
         requires { Agrees self.now }
         ensures { result ≡ option_map_or (is_free (view_of self.now.parts)) (block_of act) true }
@@ -114,7 +114,7 @@ impl<'a> PlanDraft<'a> {
         !self.applied.get(a as usize).copied().unwrap_or(false)
     }
 
-    // The same of the strip that an act applies, if it applies one (dispatch_apply(3)).
+    // Whether nothing applies the strip of the act yet; true if the act applies none (dispatch_apply(3)).
     fn applies_free(&self, act: Act) -> bool
         requires { Agrees self.now }
         ensures { result ≡ option_map_or (is_unapplied (view_of self.now.parts)) (strip_of act) true }
