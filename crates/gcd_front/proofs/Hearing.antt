@@ -78,6 +78,11 @@ module _ {S : Type 0} where
     pub begins_so : TakenFirst w.taken w.shut → (rest : List S) × (a.sent ≡ jobs_of a.sender v.taken ++ rest)
     begins_so first = let x = first (length v.shut) a (known_last v.shut w.shut a shut) in (x.0, x.1 ∙ ap (λ (l : List (Parcel S)). jobs_of a.sender l ++ x.0) taken)
 
+    -- an account of the sender that was known before is this one
+    pub only_it : (items : List (Parcel S)) → Learns w items → (i : ℕ) (b : Account S) → get_elem? v.shut i ≡ some b → b.sender ≡ a.sender → b.sent ≡ a.sent
+    only_it items l i b at same = let there = subst (λ (x : List (Account S)). get_elem? x i ≡ some b) (sym shut) (at_longer v.shut (a ∷ []) i b at) in
+        l.1 i b there ∙ ap (λ (x : ℕ). jobs_of x (w.taken ++ items)) same ∙ sym (l.1 (length v.shut) a (known_last v.shut w.shut a shut))
+
     -- all of it was taken, where all was taken of a sender with an account that was known before
     pub all_of_it : (items : List (Parcel S)) → Learns w items → AllTaken v.taken v.shut → HasAccount a.sender v.shut → a.sent ≡ jobs_of a.sender v.taken
     all_of_it items l all k = let there = subst (λ (x : List (Account S)). get_elem? x k.0 ≡ some k.1) (sym shut) (at_longer v.shut (a ∷ []) k.0 k.1 k.2) in

@@ -1,5 +1,7 @@
 -- What the calls of a front ask, and what they tell.
 use Rattle.std.specs.Prelude.{◌≡◌, ℕ, ◌+◌, ◌<◌, List, [], ◌∷◌, ◌++◌, Some, length, map, slice_get}
+use mathlib.Core.Option.{some}
+use lib.ListN.{get_elem?}
 use Rattle.std.specs.List.{range_with_len}
 use Rattle.crossbeam_queue.specs.Fifo.{Held}
 use Rattle.gcd_front.specs.declared.ledger.Account.{Account}
@@ -72,13 +74,17 @@ module _ {S : Type 0} where
     pub begins : sent ≡ jobs_of sender i.taken ++ rest
     pub all : KnowsAll f i → TookAll i → sent ≡ jobs_of sender i.taken
 
-  -- so it is of each mouth of which this is left
-  abbrev pub AreTaken : FrontView → IntakeView S → List (LeftView S) → Type 0
-  AreTaken f i lefts = (k : ℕ) (l : LeftView S) → slice_get lefts k ≡ Some l → l.sender < f.senders → IsTakenOf f i l.sender l.sent
+  -- each account of its sender that the intake knows is the one that is left of the mouth
+  abbrev pub KnowsOnly : LeftView S → IntakeView S → Type 0
+  KnowsOnly l v = (i : ℕ) (a : Account S) → get_elem? v.known i ≡ some a → a.sender ≡ l.sender → a.sent ≡ l.sent
 
-  -- what is left of a mouth was held against the intake, which has taken nothing more
-  pub record Settles (f : FrontView) (l : LeftView S) (i j : IntakeView S) : Type 0 where
-    pub front : j.front ≡ i.front
-    pub taken : j.taken ≡ i.taken
-    pub of_sender : l.sender < f.senders → IsTakenOf f i l.sender l.sent
-    pub still : KnowsAll f i → TookAll i → KnowsAll f j × TookAll j
+  -- what was taken of its sender is how the jobs begin that were accepted; it is all of them where the intake has taken all, and knew that
+  -- sender's account
+  pub record IsSettled (i : IntakeView S) (l : LeftView S) : Type 0 where
+    pub rest : List S
+    pub begins : l.sent ≡ jobs_of l.sender i.taken ++ rest
+    pub all : TookAll i → KnowsAccount l.sender i → l.sent ≡ jobs_of l.sender i.taken
+
+  -- so it is of each mouth of which this is left
+  abbrev pub AreSettled : IntakeView S → List (LeftView S) → Type 0
+  AreSettled i lefts = (k : ℕ) (l : LeftView S) → slice_get lefts k ≡ Some l → IsSettled i l

@@ -1,5 +1,5 @@
 -- What a front, its mouths and its intake are to their callers.
-use Rattle.std.specs.Prelude.{ℕ, List, [], ◌∷◌, ◌++◌}
+use Rattle.std.specs.Prelude.{ℕ, List, [], ◌∷◌, ◌++◌, map}
 use Rattle.atomic_table.specs.Seated.{TableId}
 use Rattle.gcd_front.specs.declared.ledger.Account.{Account}
 use Rattle.gcd_front.specs.declared.ledger.Parcel.{Parcel}
@@ -62,6 +62,16 @@ module _ {S : Type 0} where
     front = v.front;
     taken = v.taken;
     known = v.known ++ record { sender = l.sender; sent = l.sent } ∷ [];
+    heard = v.heard;
+    opens = v.opens;
+  }
+
+  -- the intake once it knows the accounts of what is left of these mouths, in this order
+  abbrev pub with_accounts : IntakeView S → List (LeftView S) → IntakeView S
+  with_accounts v lefts = record {
+    front = v.front;
+    taken = v.taken;
+    known = v.known ++ map (λ l. record { sender = l.sender; sent = l.sent }) lefts;
     heard = v.heard;
     opens = v.opens;
   }

@@ -1,6 +1,6 @@
 // Who takes the jobs.
 ghost use Rattle.std.specs.Prelude.{◌≡◌, ◌+◌, ◌<◌, ◌++◌, List, IfSome, IfNone, IsTrue, IsFalse};
-ghost use Rattle.gcd_front.specs.Fronts.{IsIntakeOf, IsLeftOf, WasEmpty, TakesNext, KnowsAccount, KnowsAll, TookAll, LearnsMore, FoundOpen};
+ghost use Rattle.gcd_front.specs.Fronts.{IsIntakeOf, IsLeftOf, WasEmpty, TakesNext, KnowsAccount, KnowsAll, KnowsOnly, TookAll, LearnsMore, FoundOpen};
 ghost use Rattle.gcd_front.specs.Queue.{parcel, jobs_of};
 ghost use Rattle.gcd_front.specs.Views.{with_account};
 
@@ -97,14 +97,16 @@ impl<S: Drop> Intake<S> {
     }
 
     /// Holds what is left of a mouth against what was taken: what was taken of its sender is how its accepted jobs begin, and
-    /// all of them where a [`Intake::take`] gave None while the intake knew that sender's account. The intake knows the account
-    /// from then on. Conditions: intake and what is left are of this front.
+    /// all of them where a [`Intake::take`] gave None while the intake knew that sender's account. An account of the sender that
+    /// the intake knew before is the same. The intake knows the account from then on. Conditions: intake and what is left are of
+    /// this front.
     pub fn settle(&mut self, front: &Front<S>, left: &mut Left<S>)
         requires intake { IsIntakeOf front.now self.old }
         requires left { IsLeftOf front.now left.old }
         ensures intake { self.new ≡ with_account self.old left.old }
         ensures left { left.new ≡ left.old }
         ensures begins { (rest : List S) × (left.old.sent ≡ jobs_of left.old.sender self.old.taken ++ rest) }
+        ensures only { KnowsOnly left.old self.old }
         ensures all { TookAll self.old → KnowsAccount left.old.sender self.old
             → left.old.sent ≡ jobs_of left.old.sender self.old.taken }
         ensures still { TookAll self.old → KnowsAccount left.old.sender self.old → TookAll self.new }

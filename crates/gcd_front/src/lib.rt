@@ -37,7 +37,7 @@
 //! | [`Intake::take`] | the oldest job, with its sender and its number; None only where the queue was empty at a moment of the call, and then all was taken of the senders whose accounts the intake knows | one exchange |
 //! | [`Intake::all_shut`] | true only where every mouth was shut, and the intake knows each account then; false only where a mouth was found open at a look of the call | one exchange for each mouth that it finds shut for the first time, and one for the first that is open |
 //! | [`Intake::settle`] | what was taken of the sender is how its account begins, and all of it where a `take` gave None while the intake knew the account | two loads |
-//! | [`Intake::settle_all`] | the same of each of several mouths (`IsTakenOf`) | two loads each |
+//! | [`Intake::settle_all`] | what `settle` promises of each of several mouths, in order (`IsSettled`) | two loads each |
 //! | [`Front::senders`], [`Mouth::sender`], [`Mouth::sent`], [`Left::sender`] | what they are called | none |
 //! | [`Front::listen`], [`Front::ignore`] | none: from now on, or no more, what comes wakes who sleeps | one store |
 //! | [`Front::sleep`] | none | a sleep, which what comes ends where it is listened to |
