@@ -4,17 +4,18 @@ use Rattle.std.specs.Prelude.{slice_get, slice_index_or}
 use Rattle.std.proofs.lemmas.List.FromFn.{get_or-map-range_with_len, length-map-range_with_len}
 use Rattle.std.proofs.lemmas.Option.{get_or_from_slice_get, same_Some, slice_get_within}
 use Rattle.gcd_plan.proofs.Places.{slice_get-append_left, slice_get-append_seam}
-use Rattle.gcd_front.specs.Fronts.{AreTaken, IsTakenOf, new_mouths}
+use Rattle.gcd_front.specs.Fronts.{AreSettled, IsTakenOf, new_mouths}
 use Rattle.gcd_front.specs.Views.{FrontView, IntakeView, MouthView, left_of, mouth_of}
 use Rattle.gcd_workers.specs.CalledRuns.{AreBySender, SendersStay, lefts_of}
 
 -- what is so of all that is left is so of each mouth
-pub taken_of_each : {X : Type 0} (f : FrontView) (i : IntakeView X) (mouths : List (MouthView X)) → AreTaken f i (lefts_of mouths)
+pub taken_of_each : {X : Type 0} (f : FrontView) (i : IntakeView X) (mouths : List (MouthView X)) → AreSettled i (lefts_of mouths)
     → (k : ℕ) (m : MouthView X) → slice_get mouths k ≡ Some m → m.sender < f.senders → IsTakenOf f i m.sender m.sent
 taken_of_each f i [] all k m at few = absurd (cc)
 taken_of_each f i (first ∷ mouths) all zero m at few =
-    all (length (lefts_of mouths)) (left_of m)
-    (slice_get-append_seam (lefts_of mouths) (left_of first) [] ∙ ap (λ x. Some (left_of x)) (same_Some first m at)) few
+    let own = all (length (lefts_of mouths)) (left_of m)
+    (slice_get-append_seam (lefts_of mouths) (left_of first) [] ∙ ap (λ x. Some (left_of x)) (same_Some first m at)) in
+    record { rest = own.rest; begins = own.begins; all = λ knows took. own.all took (knows m.sender few) }
 taken_of_each f i (first ∷ mouths) all (suc k) m at few =
     taken_of_each f i mouths
     (λ j l here. all j l (slice_get-append_left (lefts_of mouths) (left_of first ∷ []) j (slice_get_within (lefts_of mouths) j l here) ∙ here)) k m at few

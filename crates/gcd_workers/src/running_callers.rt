@@ -69,7 +69,8 @@ fn run_by_callers<X: Sent + Drop + Send, C: Callers<X>, R: Threads + Wait + Sync
 /// [`CallersRefused::WorkerCount`] exactly if otherwise the number of workers is 0 or greater than `MAX_WORKERS`, which is 64,
 /// [`CallersRefused::SenderCount`] exactly if otherwise the number of senders is 0 or greater than `MAX_SENDERS`, which is 64, and
 /// [`CallersRefused::OutOfMemory`] only if memory runs out, or the system makes no thread for a worker on whom all others wait. Each leaves
-/// nothing of a run. With the last the callers may have been called, and jobs may have run; with the others neither.
+/// nothing of a run. With the last the callers may have been called, and jobs may have run. With the others no job has run, and the callers are
+/// as they were.
 pub fn run_callers<X: Sent + Drop + Send, C: Callers<X>, R: Threads + Wait + Sync>(
     rt: &R,
     alloc: Global,
@@ -81,6 +82,9 @@ pub fn run_callers<X: Sent + Drop + Send, C: Callers<X>, R: Threads + Wait + Syn
     ensures no_intake { IsErrOf result CallersRefused.NoIntake ↔ (plan.now.intake ≡ None) }
     ensures worker_count { IsErrOf result CallersRefused.WorkerCount ↔ ((plan.now.intake ≢ None) × IsNoTeam workers) }
     ensures sender_count { IsErrOf result CallersRefused.SenderCount ↔ ((plan.now.intake ≢ None) × AreWorkers workers × IsNoCrowd senders) }
+    ensures no_intake_uncalled { IsErrOf result CallersRefused.NoIntake → callers.new ≡ callers.old }
+    ensures worker_count_uncalled { IsErrOf result CallersRefused.WorkerCount → callers.new ≡ callers.old }
+    ensures sender_count_uncalled { IsErrOf result CallersRefused.SenderCount → callers.new ≡ callers.old }
     ensures ran { IfOk result (RunsCallers X.gives (C.called callers.old callers.new) plan.now workers senders) }
 {
     let Some(_) = plan.intake() else {

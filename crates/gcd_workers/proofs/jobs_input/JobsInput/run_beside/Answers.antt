@@ -1,7 +1,7 @@
 use Rattle.std.proofs.Common.{◌≡◌, ◌∙◌, ℕ, [], List, length, ap, arith, subst}
 use Rattle.std.proofs.lemmas.List.FromFn.{length-map-range_with_len}
 use Rattle.std.proofs.lemmas.Option.{slice_get_within}
-use Rattle.gcd_front.specs.Fronts.{AreTaken, IsTakenOf}
+use Rattle.gcd_front.specs.Fronts.{AreSettled, IsTakenOf}
 use Rattle.gcd_front.specs.Views.{LeftView, MouthView, mouth_of}
 use Rattle.gcd_workers.specs.CalledRuns.{lefts_of}
 use Rattle.gcd_workers.proofs.Lefts.{taken_of_each}
@@ -27,8 +27,8 @@ returns-clause-ran g c =
     let have = c.run_beside.ensures.called in
     let senders = c.in-Ok-new.ensures.front.1 in
     let i = c.run_beside.new.ends.intake in
-    let all : AreTaken f i (lefts_of have.mouths) =
-    subst (λ (l : List (LeftView g.row.X.Denot)). AreTaken f i l) (c.as_mut_slice.ensures.value ∙ have.left) c.settle_all.ensures in
+    let all : AreSettled i (lefts_of have.mouths) =
+    subst (λ (l : List (LeftView g.row.X.Denot)). AreSettled i l) (c.as_mut_slice.ensures.value ∙ have.left) c.settle_all.ensures.settled in
     record {
       front = f;
       intake = i;
