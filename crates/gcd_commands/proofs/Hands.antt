@@ -17,15 +17,17 @@ use Rattle.gcd_commands.specs.declared.stop.Stop.{Stop}
 use Rattle.gcd_commands.specs.declared.story.Story.{Story}
 
 -- a command that stops hands on the cause
-pub stopped_run : {E : Type 0} (declares : PlanView → Type 0) (stop : Stop) (r : Result Story E) → IfOk r (λ s. stop_end stop ≡ Some (end_of s))
-    → IfOk r (λ s. s.found ≡ found_of stop) → IfOk r (λ s. HandsRun declares (end_of s) s.found)
-stopped_run declares stop (Ok s) told found = run_stopped (record { stop = stop; told = told; found_is = found })
-stopped_run declares stop (Err e) told found = tt
+pub stopped_run : {E : Type 0} (stops : Stop → Type 0) (declares : PlanView → Type 0) (stop : Stop) (r : Result Story E) → stops stop
+    → IfOk r (λ s. stop_end stop ≡ Some (end_of s)) → IfOk r (λ s. s.found ≡ found_of stop)
+    → IfOk r (λ s. HandsRun stops declares (end_of s) s.found)
+stopped_run stops declares stop (Ok s) why told found = run_stopped (record { stop = stop; why = why; told = told; found_is = found })
+stopped_run stops declares stop (Err e) why told found = tt
 
-pub stopped_check : {E : Type 0} (declares : PlanView → Type 0) (stop : Stop) (r : Result Story E) → IfOk r (λ s. stop_end stop ≡ Some (end_of s))
-    → IfOk r (λ s. s.found ≡ found_of stop) → IfOk r (λ s. HandsCheck declares (end_of s) s.found)
-stopped_check declares stop (Ok s) told found = check_stopped (record { stop = stop; told = told; found_is = found })
-stopped_check declares stop (Err e) told found = tt
+pub stopped_check : {E : Type 0} (stops : Stop → Type 0) (declares : PlanView → Type 0) (stop : Stop) (r : Result Story E) → stops stop
+    → IfOk r (λ s. stop_end stop ≡ Some (end_of s)) → IfOk r (λ s. s.found ≡ found_of stop)
+    → IfOk r (λ s. HandsCheck stops declares (end_of s) s.found)
+stopped_check stops declares stop (Ok s) why told found = check_stopped (record { stop = stop; why = why; told = told; found_is = found })
+stopped_check stops declares stop (Err e) why told found = tt
 
 -- the machine of a run, said of the journal of the story that tells it
 pub run_of : (plan : PlanView) (machine : MachineView) (h : List Event) (end : End) (s : Story) → end_of s ≡ end → end.journal ≡ h

@@ -4,9 +4,9 @@ ghost use Rattle.gcd_plan.specs.Limits.{max_events};
 ghost use Rattle.gcd_outer.specs.Outside.{seen};
 ghost use Rattle.gcd_commands.specs.Calls.{MadeLoads};
 ghost use Rattle.gcd_commands.specs.Checks.{IsCheckCount, IsJournalAt, IsJudged, StopsJournal};
-ghost use Rattle.gcd_commands.specs.Commands.{CheckStops, CheckTells};
-ghost use Rattle.gcd_commands.specs.Hands.{HandsCheck, IsJudgeOf};
-ghost use Rattle.gcd_commands.specs.Loads.{IsPlanOf, SomeLoads};
+ghost use Rattle.gcd_commands.specs.Commands.{CheckHands, CheckStops, CheckTells};
+ghost use Rattle.gcd_commands.specs.Hands.{IsJudgeOf};
+ghost use Rattle.gcd_commands.specs.Loads.{SomeLoads};
 ghost use Rattle.gcd_commands.specs.Stories.{end_of};
 
 use crate::found::Found;
@@ -71,7 +71,7 @@ fn check_journal<S: Shelf>(
     shelf: &mut S,
 ) -> Result<Story, Stop>
     ensures reported { IfOk result (λ s. CheckTells (seen S.tells S.state shelf.old shelf.new) request.entry (end_of s)) }
-    ensures found { IfOk result (λ s. HandsCheck (IsPlanOf (seen S.tells S.state shelf.old shelf.new) request.entry.script.now) (end_of s) s.found) }
+    ensures found { IfOk result (λ s. CheckHands (seen S.tells S.state shelf.old shelf.new) request.entry (end_of s) s.found) }
     ensures stopped { IfErr result (CheckStops (seen S.tells S.state shelf.old shelf.new) request.entry) }
 {
     let plan = load_plan(alloc, shelf, request.script)?;
@@ -101,7 +101,7 @@ pub fn tell_check<S: Shelf>(
     shelf: &mut S,
 ) -> Result<Story, AllocError>
     ensures reported { IfOk result (λ s. CheckTells (seen S.tells S.state shelf.old shelf.new) request.entry (end_of s)) }
-    ensures found { IfOk result (λ s. HandsCheck (IsPlanOf (seen S.tells S.state shelf.old shelf.new) request.entry.script.now) (end_of s) s.found) }
+    ensures found { IfOk result (λ s. CheckHands (seen S.tells S.state shelf.old shelf.new) request.entry (end_of s) s.found) }
     ensures wanting { OnErr result (SomeLoads (seen S.tells S.state shelf.old shelf.new) IsCheckCount) }
 {
     match check_journal(alloc, request, shelf) {

@@ -13,10 +13,9 @@ ghost use Rattle.gcd_turn.specs.Asked.{KeepsListens};
 ghost use Rattle.gcd_words.specs.CommandLine.{max_front_senders};
 ghost use Rattle.gcd_commands.specs.End.{ran_end};
 ghost use Rattle.gcd_commands.specs.Calls.{inputs};
-ghost use Rattle.gcd_commands.specs.Commands.{FrontBegins, FrontStops, FrontTells};
+ghost use Rattle.gcd_commands.specs.Commands.{FrontBegins, FrontHands, FrontStops, FrontTells};
 ghost use Rattle.gcd_commands.specs.Fronts.{HasIntake, RanBeside, TellsFront, sender_text, value_or_0, values_at};
-ghost use Rattle.gcd_commands.specs.Hands.{HandsRun, IsRunOf};
-ghost use Rattle.gcd_commands.specs.Loads.{IsPlanOf};
+ghost use Rattle.gcd_commands.specs.Hands.{IsRunOf};
 ghost use Rattle.gcd_commands.specs.Stories.{end_of};
 ghost use Rattle.gcd_machine.specs.Stands.{StandsFor};
 ghost use Rattle.gcd_commands.specs.declared.found.Found.TheVariants.{Run};
@@ -227,7 +226,7 @@ fn front_script<R: Threads + Wait + Sync, S: Shelf, P: Poller + Send, C: Clock +
     requires senders { (0 < request.senders) × (request.senders ≤ max_front_senders) }
     requires unwatched { (feed : ℕ) → (P.state poller.old).watched feed ≡ false }
     ensures told { IfOk result (λ s. FrontTells (inputs S.Shelf shelf.old shelf.new P.Poller poller.old poller.new C.Clock clock.old clock.new) request.entry (end_of s)) }
-    ensures found { IfOk result (λ s. HandsRun (IsPlanOf (seen S.tells S.state shelf.old shelf.new) request.entry.script.now) (end_of s) s.found) }
+    ensures found { IfOk result (λ s. FrontHands (seen S.tells S.state shelf.old shelf.new) request.entry (end_of s) s.found) }
     ensures stopped { IfErr result (FrontStops (seen S.tells S.state shelf.old shelf.new) request.entry) }
     ensures kept { KeepsListens P.tells (P.state poller.old) (P.state poller.new) }
 {
@@ -271,7 +270,7 @@ pub fn tell_front<R: Threads + Wait + Sync, S: Shelf, P: Poller + Send, C: Clock
     requires senders { (0 < request.senders) × (request.senders ≤ max_front_senders) }
     requires unwatched { (feed : ℕ) → (P.state poller.old).watched feed ≡ false }
     ensures told { IfOk result (λ s. FrontTells (inputs S.Shelf shelf.old shelf.new P.Poller poller.old poller.new C.Clock clock.old clock.new) request.entry (end_of s)) }
-    ensures found { IfOk result (λ s. HandsRun (IsPlanOf (seen S.tells S.state shelf.old shelf.new) request.entry.script.now) (end_of s) s.found) }
+    ensures found { IfOk result (λ s. FrontHands (seen S.tells S.state shelf.old shelf.new) request.entry (end_of s) s.found) }
     ensures wanting { OnErr result (FrontBegins (seen S.tells S.state shelf.old shelf.new) request.entry) }
     ensures kept { KeepsListens P.tells (P.state poller.old) (P.state poller.new) }
 {

@@ -10,7 +10,7 @@ ghost use Rattle.gcd_turn.specs.Asked.{KeepsListens};
 ghost use Rattle.gcd_outer.specs.Outside.{seen};
 ghost use Rattle.gcd_commands.specs.End.{large_file, ran_end};
 ghost use Rattle.gcd_commands.specs.Runs.{BigEnds, IsLargeScript};
-ghost use Rattle.gcd_commands.specs.Hands.{HandsRun};
+ghost use Rattle.gcd_commands.specs.Hands.{HandsOfBig};
 ghost use Rattle.gcd_commands.specs.Stories.{end_of};
 ghost use Rattle.gcd_commands.specs.declared.found.Found.TheVariants.{Run};
 
@@ -127,7 +127,7 @@ pub fn tell_large<R: Threads + Wait + Sync, P: Poller, C: Clock>(
     requires count { (0 < request.count) × (request.count < max_blocks) }
     requires workers { (0 < request.workers) × (request.workers ≤ max_workers) }
     ensures reported { IfOk result (λ s. BigEnds (seen P.tells P.state poller.old poller.new) (seen C.tells C.state clock.old clock.new) request.count request.workers (end_of s)) }
-    ensures found { IfOk result (λ s. HandsRun (IsLargeScript request.count) (end_of s) s.found) }
+    ensures found { IfOk result (λ s. HandsOfBig request.count (end_of s) s.found) }
     ensures kept { KeepsListens P.tells (P.state poller.old) (P.state poller.new) }
 {
     let plan = large_plan(alloc, u32::from(request.count))?;

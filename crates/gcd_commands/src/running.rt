@@ -13,12 +13,11 @@ ghost use Rattle.gcd_machine.specs.Stands.{StandsFor};
 ghost use Rattle.gcd_outer.specs.Outside.{seen};
 ghost use Rattle.gcd_turn.specs.Asked.{KeepsListens};
 ghost use Rattle.gcd_commands.specs.Calls.{inputs};
-ghost use Rattle.gcd_commands.specs.Commands.{RunBegins, RunStops, RunTells};
+ghost use Rattle.gcd_commands.specs.Commands.{RunBegins, RunHands, RunStops, RunTells};
 ghost use Rattle.gcd_commands.specs.Listens.{FailsToListen, Listened};
 ghost use Rattle.gcd_commands.specs.End.{ran_end, run_text};
 ghost use Rattle.gcd_commands.specs.Runs.{TellsRun};
-ghost use Rattle.gcd_commands.specs.Hands.{HandsRun, IsRunOf};
-ghost use Rattle.gcd_commands.specs.Loads.{IsPlanOf};
+ghost use Rattle.gcd_commands.specs.Hands.{IsRunOf};
 ghost use Rattle.gcd_commands.specs.Stories.{end_of};
 ghost use Rattle.gcd_commands.specs.declared.found.Found.TheVariants.{Run};
 
@@ -168,7 +167,7 @@ fn run_script<R: Threads + Wait + Sync, S: Shelf, P: Poller, C: Clock>(
     requires workers { (0 < request.workers) × (request.workers ≤ max_workers) }
     requires most { (0 < request.most) × (request.most ≤ max_events) }
     ensures reported { IfOk result (λ s. RunTells (inputs S.Shelf shelf.old shelf.new P.Poller poller.old poller.new C.Clock clock.old clock.new) request.entry (end_of s)) }
-    ensures found { IfOk result (λ s. HandsRun (IsPlanOf (seen S.tells S.state shelf.old shelf.new) request.entry.script.now) (end_of s) s.found) }
+    ensures found { IfOk result (λ s. RunHands (inputs S.Shelf shelf.old shelf.new P.Poller poller.old poller.new C.Clock clock.old clock.new) request.entry (end_of s) s.found) }
     ensures stopped { IfErr result (RunStops (inputs S.Shelf shelf.old shelf.new P.Poller poller.old poller.new C.Clock clock.old clock.new) request.entry) }
 {
     let (plan, files) = load_all(alloc, shelf, request.script)?;
@@ -205,7 +204,7 @@ pub fn tell_run<R: Threads + Wait + Sync, S: Shelf, P: Poller, C: Clock>(
     requires workers { (0 < request.workers) × (request.workers ≤ max_workers) }
     requires most { (0 < request.most) × (request.most ≤ max_events) }
     ensures reported { IfOk result (λ s. RunTells (inputs S.Shelf shelf.old shelf.new P.Poller poller.old poller.new C.Clock clock.old clock.new) request.entry (end_of s)) }
-    ensures found { IfOk result (λ s. HandsRun (IsPlanOf (seen S.tells S.state shelf.old shelf.new) request.entry.script.now) (end_of s) s.found) }
+    ensures found { IfOk result (λ s. RunHands (inputs S.Shelf shelf.old shelf.new P.Poller poller.old poller.new C.Clock clock.old clock.new) request.entry (end_of s) s.found) }
     ensures wanting { OnErr result (RunBegins (inputs S.Shelf shelf.old shelf.new P.Poller poller.old poller.new C.Clock clock.old clock.new) request.entry) }
 {
     match run_script(rt, alloc, request, shelf, poller, clock) {

@@ -3,7 +3,7 @@ use Rattle.std.proofs.Common.{◌≡◌, ◌∙◌, true, is_some, List, Option,
 use Rattle.std.specs.Prelude.{IfOk}
 use Rattle.std.proofs.lemmas.Bool.{both_ways}
 use Rattle.gcd_facts.proofs.Options.{is_some-option_map}
-use Rattle.gcd_outer.specs.Outside.{Bytes, Seen, ShelfState}
+use Rattle.gcd_outer.specs.Outside.{Bytes}
 use Rattle.gcd_words.specs.Asked.{AreTaken, Asked, request_of}
 use Rattle.gcd_commands.specs.Calls.{Calls, InputsSeen}
 use Rattle.gcd_commands.specs.End.{End}
@@ -22,15 +22,15 @@ pub calls_of_words : (seen : InputsSeen) (words : List Bytes) (o : Option Asked)
     → AskedCalls seen o calls → WordsCall seen words calls
 calls_of_words seen words o calls asked is = inr (subst (λ (p : Option Asked). AskedCalls seen p calls) asked is)
 
-pub hands_of_words : (shelf : Seen ShelfState) (words : List Bytes) (o : Option Asked) (end : End) (found : Found) → o ≡ request_of words
-    → AskedHands shelf o end found → AskedHands shelf (request_of words) end found
-hands_of_words shelf words o end found asked is = subst (λ (p : Option Asked). AskedHands shelf p end found) asked is
+pub hands_of_words : (seen : InputsSeen) (words : List Bytes) (o : Option Asked) (end : End) (found : Found) → o ≡ request_of words
+    → AskedHands seen o end found → AskedHands seen (request_of words) end found
+hands_of_words seen words o end found asked is = subst (λ (p : Option Asked). AskedHands seen p end found) asked is
 
 -- what a command hands on, the call hands on
 pub hands_on_of : (outside : OutsideSeen) (words : List Bytes) (result : Account) (end : End) (found : Found) → IsWritten outside.sink end result.ended
-    → result.found ≡ found → AskedHands outside.inputs.shelf (request_of words) end found → HandsOn outside words result
+    → result.found ≡ found → AskedHands outside.inputs (request_of words) end found → HandsOn outside words result
 hands_on_of outside words result end found written same hands =
-    hands_on end written (subst (λ (f : Found). AskedHands outside.inputs.shelf (request_of words) end f) (sym same) hands)
+    hands_on end written (subst (λ (f : Found). AskedHands outside.inputs (request_of words) end f) (sym same) hands)
 
 -- words that are taken ask for something
 pub taken_asks : {R : Type 0} (of : R → Asked) (r : Option R) (words : List Bytes) → option_map of r ≡ request_of words

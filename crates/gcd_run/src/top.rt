@@ -30,7 +30,7 @@ fn tell<R: Threads + Wait + Sync, S: Shelf, P: Poller + Send, C: Clock + Send>(
     requires unwatched { (feed : ℕ) → (P.state poller.old).watched feed ≡ false }
     ensures reported { IfOk result (λ s. WordsTell (inputs S.Shelf shelf.old shelf.new P.Poller poller.old poller.new C.Clock clock.old clock.new) (texts words.now) (end_of s)) }
     ensures taken { IfOk result (λ s. AreTaken (texts words.now) → is_some (request_of (texts words.now)) ≡ true) }
-    ensures found { IfOk result (λ s. AskedHands (seen S.tells S.state shelf.old shelf.new) (request_of (texts words.now)) (end_of s) s.found) }
+    ensures found { IfOk result (λ s. AskedHands (inputs S.Shelf shelf.old shelf.new P.Poller poller.old poller.new C.Clock clock.old clock.new) (request_of (texts words.now)) (end_of s) s.found) }
     ensures wanting { OnErr result (WordsBegin (inputs S.Shelf shelf.old shelf.new P.Poller poller.old poller.new C.Clock clock.old clock.new) (texts words.now)) }
 {
     match read_words(alloc, words)? {

@@ -16,4 +16,5 @@ returns-in-Err-clause-wanting g c =
     on_any_err c.stopped.result (record { loads = why.loads; made = why.made; is = front_stops_count _ _ why.loads c.in-Err.stop why.is })
 
 pub returns-in-Err-clause-found : goal.returns-in-Err-clause-found
-returns-in-Err-clause-found g c = stopped_run _ c.in-Err.stop c.stopped.result c.stopped.ensures.told c.stopped.ensures.found
+returns-in-Err-clause-found g c =
+    stopped_run _ _ c.in-Err.stop c.stopped.result c.in-Err.ensures.stopped c.stopped.ensures.told c.stopped.ensures.found
