@@ -4,7 +4,7 @@ ghost use Rattle.std.specs.Thread.{IsSync, IsSend};
 ghost use Rattle.gcd_pool.specs.Each.{Each};
 
 use std::sync::Wait;
-use std::thread::{Threads, for_each_mut, join_mut};
+use std::thread::{Threads, join_mut};
 
 /// A pool, and the work of a helper. Hands are of any type here, because a join of threads loses the facts of a concrete type.
 pub trait Crew<T> {
@@ -37,7 +37,9 @@ pub trait Leader<T, D: Crew<T>, A, O> {
         ensures led { led self.now crew.now (hand.old, intake.old, outside.old) (hand.new, intake.new, outside.new) result };
 }
 
-/// Lets each helper serve in its own thread, until all have served.
+/// Lets each helper serve in its own thread, until all have served. This thread makes theirs, one after the other, and serves no hand: Linux
+/// may leave a new thread on the processor of the thread that made it, which must then be free.
+#[cycle(helpers)]
 pub fn serve_all<T: Send, D: Crew<T> + Sync, R: Threads + Wait + Sync>(
     rt: &R,
     crew: &D,
@@ -46,11 +48,19 @@ pub fn serve_all<T: Send, D: Crew<T> + Sync, R: Threads + Wait + Sync>(
     requires { All (D.ready crew.now) hands.old }
     ensures { Each (D.served crew.now) hands.old hands.new }
 {
-    let each = |_place: usize, hand: &mut T|
-        requires { D.ready crew.now hand.old }
-        ensures { D.served crew.entry.now hand.old hand.new }
-    { crew.serve(rt, hand) };
-    for_each_mut(rt, hands, 64, &each);
+    if hands.is_empty() {
+        return;
+    }
+    let (first, rest) = hands.split_at_mut(1);
+    let mut serve = ||
+        requires { IsSync R.row × IsSync D.row × IsSend T.row × (length first.now ≡ 1) × All (D.ready crew.now) first.now }
+        ensures { Each (D.served crew.entry.now) first.entry.now first.exit.now }
+    { crew.serve(rt, &mut first[0]) };
+    let mut others = ||
+        requires { IsSync R.row × IsSync D.row × IsSend T.row × All (D.ready crew.now) rest.now }
+        ensures { Each (D.served crew.entry.now) rest.entry.now rest.exit.now }
+    { serve_all(rt, crew, rest) };
+    join_mut(rt, &mut serve, &mut others);
 }
 
 // Lets helpers serve in threads while worker 0, the first hand, leads. A team of one needs no thread. Returns what worker 0 returns.
