@@ -1,6 +1,6 @@
 -- Steps of a run of jobs by worker 0 alone.
 use Rattle.std.specs.Prelude.{OnOk}
-use Rattle.std.proofs.Common.{◌≡◌, ◌<◌, ◌+◌, ◌∙◌, ◌++◌, ◌∷◌, ℕ, Bool, Result, Ok, Err, true, false, List, [], None, Some, length, refl, ap, sym, subst, arith, append_assoc}
+use Rattle.std.proofs.Common.{◌≡◌, ◌<◌, ◌+◌, ◌∙◌, ◌++◌, ◌∷◌, ℕ, Result, Ok, Err, true, false, List, [], None, Some, length, refl, ap, sym, subst, arith, append_assoc}
 use Rattle.std.proofs.lemmas.Bool.{and_from, or_parts}
 use Rattle.std.proofs.lemmas.List.{length_push}
 use Rattle.gcd_plan.specs.PlanView.{PlanView}
@@ -16,10 +16,7 @@ use Rattle.gcd_history.proofs.Public.Laws.{choice_is_permitted}
 use Rattle.gcd_history.proofs.Permitted.Lawful.{lawful_front}
 use Rattle.gcd_jobs.proofs.ValuesMore.{end_fits}
 use Rattle.gcd_loop.specs.Recorded.{Grows}
-use Rattle.gcd_loop.specs.Rushed.{IsRushed}
-use Rattle.gcd_loop.proofs.Rushes.{rushed_more, rushed_none}
 use Rattle.gcd_loop.proofs.Steps.{grows_none}
-use Rattle.gcd_machine.specs.Calm.{IsCalm}
 use Rattle.gcd_machine.proofs.Views.Calls.{lawful_stands}
 use Rattle.gcd_machine.specs.Stands.{StandsFor}
 use Rattle.gcd_pool.proofs.Admitting.{works_uncalled}
@@ -28,7 +25,6 @@ use Rattle.gcd_row.proofs.Accepted.{next_stays}
 use Rattle.gcd_workers.specs.AloneCalls.{CallsStay, Stays}
 use Rattle.gcd_workers.specs.JobsKept.{HasRunAtOnce, IsBetween}
 use Rattle.gcd_workers.specs.JobStates.{ComesToNoMore}
-use Rattle.gcd_workers.specs.ListRuns.{HasChosen}
 use Rattle.gcd_workers.specs.declared.job_state.JobState.{JobState}
 use Rattle.gcd_workers.proofs.Calls.{calls_kept, calls_same, calls_through}
 
@@ -100,20 +96,13 @@ module _ {J : Type 0} (gives : J → ℕ → ℕ → Type 0) where
     no_more = λ b value may. first.no_more b value (later.no_more b value may);
   }
 
--- ## Answers that may be out of memory, and steps of a rush
+-- ## Answers that may be out of memory, and a step of a rush
 
 pub on_ok : {T E : Type 0} {P Q : Type 0} (r : Result T E) → (P → Q) → OnOk r P → OnOk r Q
 on_ok (Ok x) to is = to is
 on_ok (Err e) to is = tt
 
-pub rushed_choice : (plan : PlanView) (h l : List Event) (b : Bool) → IsCalm plan h → HasChosen plan h l b → IsRushed plan h l
-rushed_choice plan h l true calm one = subst (IsRushed plan h) (sym one.chosen.is) (rushed_more plan h h one.event (rushed_none plan h) calm one.chosen.chosen)
-rushed_choice plan h l false calm same = subst (IsRushed plan h) (sym same) (rushed_none plan h)
-
 pub more_run : (h k : List Event) → HasRunAtOnce h k → length h < length k
 more_run h k ran =
     let start : List Event = h ++ Start 0 ran.0 ∷ [] in
     omega (arith, ap length ran.1, length_push h (Start 0 ran.0), length_push start (End 0 ran.0))
-
-pub more_choice : (plan : PlanView) (h l : List Event) → HasChosen plan h l true → length h < length l
-more_choice plan h l one = omega (arith, ap length one.chosen.is, length_push h one.event)

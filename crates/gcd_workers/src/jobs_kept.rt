@@ -13,7 +13,7 @@ ghost use Rattle.gcd_plan.specs.PlanView.{PlanView};
 ghost use Rattle.gcd_workers.specs.AloneCalls.{Stays};
 ghost use Rattle.gcd_workers.specs.JobsKept.{HasRunAtOnce, IsAcceptedAlone, IsBetween, IsJobsKept, IsNextOfJobs, IsToEnd, WasPutAlone};
 ghost use Rattle.gcd_workers.specs.JobStates.{AreStates, ComesToNoMore};
-ghost use Rattle.gcd_workers.specs.ListRuns.{HasChosen, HasSteppedTwice};
+ghost use Rattle.gcd_workers.specs.ListRuns.{HasChosen, HasStepped, HasSteppedTwice};
 
 use crate::job_state::{JobState, run_job, waiting};
 use gcd_event::{Entry, Event};
@@ -143,25 +143,44 @@ impl<J: Job + Drop> JobsKept<J> {
         }
     }
 
-    // Records the start and the end of a block, or else one event that worker 0 chooses, and says whether there was one. An `Err` leaves the
-    // run as it was.
+    // Takes what worker 0 records next, if that is quick ([`Machine::quick`]). An `Err` leaves the run as it was.
     #[inline(always)]
-    fn rush_step(&mut self, given: &JobsGiven<J>) -> Result<bool, AllocError>
-        requires room { length self.old.journal.items + 1 < given.now.most }
+    fn record_quick(&mut self, given: &JobsGiven<J>) -> Result<Option<Event>, AllocError>
+        requires room { length self.old.journal.items < given.now.most }
         requires run { IsJobsKept J.gives given.now self.old }
         ensures run { IsJobsKept J.gives given.now self.new }
-        ensures rushed { OnOk result (IsCalm given.now.plan.now self.old.journal.items
-            → IsRushed given.now.plan.now self.old.journal.items self.new.journal.items) }
-        ensures more { IfOk result (λ some. some ≡ true → length self.old.journal.items < length self.new.journal.items) }
+        ensures stepped { IfOk result (HasStepped given.now.plan.now self.old.journal.items self.new.journal.items) }
         ensures stays { OnOk result (Stays J.gives self.old.journal.items self.new.journal.items self.old.states.items self.new.states.items) }
     {
-        match self.record_run(given)? {
-            true => Ok(true),
-            false => {
-                let is_chosen = self.record_choice(given)?;
-                Ok(is_chosen)
+        self.journal.reserve(1)?;
+        match self.machine.quick(0) {
+            Some(e) => {
+                self.journal.push_reserved(Entry::of(e));
+                run_ended(&self.machine, e, &mut self.states);
+                Ok(Some(e))
             }
+            None => Ok(None),
         }
+    }
+
+    // Records starts and ends of blocks, as long as they are quick and nothing can come of the outside, and says whether nothing can. An
+    // `Err` leaves a run.
+    #[inline(always)]
+    fn rush_through(&mut self, given: &JobsGiven<J>) -> Result<bool, AllocError>
+        requires run { IsJobsKept J.gives given.now self.old }
+        ensures run { IsJobsKept J.gives given.now self.new }
+        ensures rushed { OnOk result (IsRushed given.now.plan.now self.old.journal.items self.new.journal.items) }
+        ensures calm { IfOk result (λ calm. calm ≡ true → IsCalm given.now.plan.now self.new.journal.items) }
+        ensures stays { OnOk result (Stays J.gives self.old.journal.items self.new.journal.items self.old.states.items self.new.states.items) }
+    {
+        let mut calm = self.machine.is_calm();
+        while calm && given.most - self.machine.len() > 1 {
+            if !self.record_run(given)? {
+                return Ok(true);
+            }
+            calm = self.machine.is_calm();
+        }
+        Ok(calm)
     }
 
     // Records what worker 0 chooses, one event after another, while nothing can come of the outside. An `Err` leaves a run.
@@ -172,11 +191,20 @@ impl<J: Job + Drop> JobsKept<J> {
         ensures stays { OnOk result (Stays J.gives self.old.journal.items self.new.journal.items self.old.states.items self.new.states.items) }
     {
         let mut calm = self.machine.is_calm();
-        while calm && given.most - self.machine.len() > 1 {
-            if !self.rush_step(given)? {
-                return Ok(());
+        while calm && self.machine.len() < given.most {
+            match self.record_quick(given)? {
+                Some(e) => {
+                    if e.ended().is_some() {
+                        calm = self.rush_through(given)?;
+                    }
+                }
+                None => {
+                    if !self.record_choice(given)? {
+                        return Ok(());
+                    }
+                    calm = self.machine.is_calm();
+                }
             }
-            calm = self.machine.is_calm();
         }
         Ok(())
     }

@@ -42,10 +42,20 @@ pub(crate) fn has_long_file(files: &[Vec<u8>]) -> bool {
     false
 }
 
+// Returns whether the block's work counts so many bytes that it can be long.
+#[inline(always)]
+fn has_many_bytes(plan: &Plan, b: Blk) -> bool {
+    match plan.work(b) {
+        Some(work) => counting_time(How::Words, u64::from(work.len)) >= LONG_TIME,
+        None => false,
+    }
+}
+
 /// Returns whether a block has a long work.
 pub(crate) fn has_long_work(over: Over) -> bool {
     for number in 0..over.plan.blocks() {
-        if is_long(over, Blk(number)) {
+        let b = Blk(number);
+        if has_many_bytes(over.plan, b) && is_long(over, b) {
             return true;
         }
     }
