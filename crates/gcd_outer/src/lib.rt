@@ -27,7 +27,7 @@
 //! | any of these three | `Ok` | the count of faults is as it was |
 //! | | `Failed` | the count of faults rose, and all else is as it was, but for the number of listens |
 //! | `Clock::now` | the time | it is not below an earlier answer; where told, it is the present |
-//! | `Clock::wait_until` | | the present is at least the moment waited for |
+//! | `Clock::wait_until`, `wait_for` | | the present is at least the moment waited for |
 //!
 //! Each trait has a ghost member `state`: what the thing holds or has told so far, and its count of faults. What is told is a field
 //! of that state, as `content` or `answers`, and the clauses on it hold if the ghost member `tells` is true: it is true in memory,
@@ -35,7 +35,7 @@
 //! after them. A count rises at a fault, in memory by one and at nothing else; since it is a 64-bit number, it stops at 2^64 - 1,
 //! and "the count rose" (`Rises`) says: it rose, or it stands at that last number.
 //!
-//! `Poller::poll` and `Clock::wait_until` alone wait for others; no proof says that they return.
+//! `Poller::poll`, `Clock::wait_until` and `Clock::wait_for` alone wait for others; no proof says that they return.
 //! Nothing is said of what a file, a socket or a terminal gives or takes, nor of how long a wait is.
 //!
 //! The bytes of a read source, and its end, come from the poller.
@@ -57,7 +57,7 @@ mod text_log;
 mod told;
 mod vec_sink;
 
-pub use clock::Clock;
+pub use clock::{Clock, Due};
 pub use jump_clock::JumpClock;
 pub use limits::{MAX_FEEDS, MAX_TELL_BYTES, MAX_TELLS};
 pub use list_poller::ListPoller;
