@@ -13,8 +13,9 @@ use Rattle.gcd_plan.specs.Limits.{max_time}
 use Rattle.gcd_plan.specs.KindValues.{is_on_interval}
 use Rattle.gcd_sets.proofs.Ranges.{find_none, find_first, found_first, found_none}
 use Rattle.gcd_sets.specs.Least.{earlier, least, no_time}
-use Rattle.gcd_timer.specs.TimersView.{TimersView, timers_of, activated_at, cancelled_at, is_due_at, with_activated, with_cancelled}
+use Rattle.gcd_timer.specs.TimersView.{TimersView, timers_of, activated_at, cancelled_at, is_due_at, next_due_at, with_activated, with_cancelled}
 use Rattle.gcd_timer.specs.Listed.{AreBehind, next_due_of, nexts_of, is_reached}
+use Rattle.gcd_timer.proofs.Views.{least_of_all}
 
 -- a next due time is no later than the last
 pub if_short : (o : Option ℕ) (view : TimersView) (s : ℕ) → o ≡ next_due_of view s → view.until ≤ max_time → IfSome o (λ t. t < no_time)
@@ -191,3 +192,13 @@ one_less view nexts s next lt here is =
 pub all_ahead : (view : TimersView) (nexts : List (Option ℕ)) → AreBehind view nexts → ((s : ℕ) → is_reached view.moment (get_or nexts s None) ≡ false)
     → nexts ≡ nexts_of view
 all_ahead view nexts b none = nexts_are view nexts b.long (λ s lt. b.ahead s (none s))
+
+-- a number whose next due time is the least is due at the least of all
+pub due_soonest : (view : TimersView) (nexts : List (Option ℕ)) (s t : ℕ) → nexts ≡ nexts_of view → s < length nexts
+    → slice_get nexts s ≡ Some (least nexts) → next_due_at view ≡ Some t → is_due_at view s t ≡ true
+due_soonest view nexts s t all within there next =
+    let n : s < length view.kinds = (let count = ap length all ∙ long view in omega (arith, within, count)) in
+    let own : next_due_of view s ≡ least nexts =
+    sym (next_read view s n) ∙ ap (λ ns. get_or ns s None) (sym all) ∙ get_or_from_slice_get nexts s (least nexts) None there in
+    let found : next_due_of view s ≡ Some t = own ∙ ap least all ∙ least_of_all view ∙ next in
+    (found_first (is_due_at view s) (view.moment + 1) (view.until - view.moment) t found).passes

@@ -11,6 +11,7 @@
 //! | `copied` | the same timers once more; or out of memory | |
 //! | `moment` | the present time | |
 //! | `next_due` | the least due time after the present; None exactly where no due time is left | |
+//! | `soonest` | a timer that is due then; None exactly if no due time is left | |
 //! | `due_count` | how many due times the timer has had, up to the present | |
 //! | `activate` | | the timer activated now, where it was not before |
 //! | `cancel` | | the timer cancelled now, where it was not before |

@@ -1,6 +1,6 @@
 // The timers, and the time.
-ghost use Rattle.std.specs.Prelude.{◌≡◌, ◌<◌, ◌≤◌, ℕ, IfOk, IfSome, None, is_some, true, false, length, slice_index_or, slice_set};
-ghost use Rattle.gcd_timer.specs.TimersView.{timers_of, activated_at, cancelled_at, next_due_at, due_count_at, with_activated, with_cancelled, marked_by};
+ghost use Rattle.std.specs.Prelude.{◌≡◌, ◌<◌, ◌≤◌, ℕ, IfOk, IfSome, None, Some, is_some, true, false, length, slice_index_or, slice_set};
+ghost use Rattle.gcd_timer.specs.TimersView.{timers_of, activated_at, cancelled_at, is_due_at, next_due_at, due_count_at, with_activated, with_cancelled, marked_by};
 ghost use Rattle.gcd_timer.specs.Listed.{AreBehind, is_reached, nexts_of, reached_marked};
 ghost use Rattle.gcd_sets.specs.Least.{no_time};
 
@@ -117,6 +117,17 @@ impl Timers {
         ensures { result ≡ next_due_at self.now }
     {
         self.nexts.least()
+    }
+
+    /// A timer that is due at [`Timers::next_due`], any one if there are several; None exactly if no due time is left
+    /// (dispatch_source_set_timer(3)). It takes a step for each doubling of the objects.
+    pub fn soonest(&self) -> Option<Obj>
+        ensures some { is_some result ≡ is_some (next_due_at self.now) }
+        ensures within { IfSome result (λ s. s.0 < length self.now.kinds) }
+        ensures due { IfSome result (λ s. (t : ℕ) → next_due_at self.now ≡ Some t → is_due_at self.now s.0 t ≡ true) }
+    {
+        let s = self.nexts.soonest()?;
+        Some(Obj(s))
     }
 
     /// How many due times the timer has had, up to the present: one after the other is `every` later, the first `start`
