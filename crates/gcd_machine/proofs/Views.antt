@@ -6,3 +6,4 @@ pub mod Sleepers
 pub mod StartRule
 pub mod Workers
 pub mod Calls
+pub mod Dues

@@ -10,4 +10,5 @@ pub mod Judged
 pub mod Begins
 pub mod Chosen
 pub mod Calm
+pub mod Dues
 pub mod Quick

@@ -17,6 +17,7 @@
 //! | `expiry` | the Expire that worker 0 records (`expiry_of`), or None where no wait may expire |
 //! | `state`, `is_quiescent`, `is_halted` | how far the run has come (`HasState`), whether nothing but a halt can come, whether it is over |
 //! | `len`, `running` | how many events came, how many runs are open and not parked |
+//! | `due_by` | what is due at `next_due`: a timer, or a block whose wait reaches its limit ([`DueBy`], `is_due_by`) |
 //! | `next_due`, `is_live_feed`, `next_live_feed`, `data_of`, `pending_of` | due times of timers and limits of waits, live feeds, what sources handed over and have pending |
 //! | `first_waiting`, `node_of`, `is_started`, `is_ended`, `awaited`, `parks` | what waits on an object; of a block where it was submitted, whether it has started and ended, what it waits for; whether an act parks its block |
 //! | `is_cancelled` | whether a block is cancelled: its run has no act and no work |
@@ -74,10 +75,12 @@
 //! Nothing here says that a worker does anything, or when.
 #![tactic(auto)]
 
+mod due_by;
 pub mod laws;
 mod machine;
 mod put;
 mod registers;
 
+pub use due_by::DueBy;
 pub use machine::Machine;
 pub use put::Put;

@@ -1,5 +1,5 @@
 // A machine that stands for a plan and what has happened so far.
-ghost use Rattle.std.specs.Prelude.{◌≡◌, ◌<◌, ◌-◌, ◌++◌, ◌∷◌, ◌↔◌, [], false, List, None, Option, IfOk, IfSome, IsTrue, find, length, option_map};
+ghost use Rattle.std.specs.Prelude.{◌≡◌, ◌<◌, ◌-◌, ◌++◌, ◌∷◌, ◌↔◌, [], ℕ, false, true, List, None, Some, Option, IfOk, IfSome, IsTrue, find, is_some, length, option_map};
 ghost use Rattle.std.specs.List.{range_with_len};
 ghost use Rattle.gcd_plan.specs.declared.numbers.Blk.{Blk};
 ghost use Rattle.gcd_plan.specs.PlanView.{PlanView};
@@ -9,9 +9,11 @@ ghost use Rattle.gcd_history.specs.Ends.{HasState, IsQuiescent, is_halted};
 ghost use Rattle.gcd_history.specs.History.{awaited_of, choice_of, expiry_of, last_data_of, first_waiting_of, next_of_intake, is_block_cancelled, is_ended, is_intake_open, is_live_feed, is_started, next_due_of, node_of, parks, pending_of, running_of, why};
 ghost use Rattle.gcd_machine.specs.Begins.{begin_of};
 ghost use Rattle.gcd_machine.specs.Calm.{IsCalm};
+ghost use Rattle.gcd_machine.specs.Dues.{is_due_by};
 ghost use Rattle.gcd_machine.specs.Quick.{IsRunNext, IsRunTaken, IsTaken, MayStep, MayStepTwice, quick_of};
 ghost use Rattle.gcd_machine.specs.Stands.{MayApply, StandsFor};
 
+use crate::due_by::DueBy;
 use crate::registers::Registers;
 use gcd_event::Event;
 use gcd_history::State;
@@ -217,6 +219,17 @@ impl Machine {
         ensures { (plan : PlanView) (h : List Event) → StandsFor self.now plan h → result ≡ next_due_of plan h }
     {
         self.registers.next_due()
+    }
+
+    /// What is due at [`Machine::next_due`]: a timer, or a block whose wait reaches its limit then, any one of them if there are
+    /// several. None exactly if no due time is left. It takes a step for each doubling of the objects, or of the blocks (this
+    /// project's own rule).
+    pub fn due_by(&self) -> Option<DueBy>
+        ensures some { (plan : PlanView) (h : List Event) → StandsFor self.now plan h → is_some result ≡ is_some (next_due_of plan h) }
+        ensures due { (plan : PlanView) (h : List Event) (t : ℕ) → StandsFor self.now plan h → next_due_of plan h ≡ Some t
+            → IfSome result (λ d. is_due_by plan h t d ≡ true) }
+    {
+        self.registers.due_by()
     }
 
     /// Whether the object is a read source that is active and not cancelled (dispatch_source_create(3)).

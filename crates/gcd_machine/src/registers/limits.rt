@@ -1,14 +1,17 @@
 // Limits of waits: which are ahead, and which waits may expire.
-ghost use Rattle.std.specs.Prelude.{◌≡◌, ◌<◌, ◌≤◌, ◌+◌, Option, ℕ, Some, IfSome, IfNone, length, min, nat_le, true, false, slice_index_or, None};
+ghost use Rattle.std.specs.Prelude.{◌≡◌, ◌<◌, ◌≤◌, ◌+◌, Option, ℕ, Some, IfSome, IfNone, is_some, length, min, nat_le, true, false, slice_index_or, None};
 ghost use Rattle.std.specs.Option.{option_map_or};
 ghost use Rattle.gcd_sets.specs.Least.{earlier, least};
 ghost use Rattle.gcd_refinement.specs.MachineView.{ahead_at, next_due_in};
+ghost use Rattle.gcd_timer.specs.TimersView.{next_due_at};
+ghost use Rattle.gcd_machine.specs.Dues.{IsDueIn};
 ghost use Rattle.gcd_refinement.specs.AfterLimits.{is_reached};
 ghost use Rattle.gcd_plan.specs.declared.reason.Reason.{Reason};
 ghost use Rattle.gcd_machine.specs.Steps.{expired, limited, ripened, unlimited, wait_ended};
 ghost use Rattle.gcd_machine.specs.Conditions.{CanBeAhead, CanEndWait, CanExpire, CanLetGo};
 
 use super::Registers;
+use crate::due_by::DueBy;
 use gcd_plan::{Blk, Obj, Reason};
 
 // The earlier of two times, where there are two.
@@ -30,6 +33,53 @@ impl Registers {
         ensures { result ≡ next_due_in self.now }
     {
         earlier_of(self.timers.next_due(), self.ahead.least())
+    }
+
+    // Whether no limit is before the next due time of a timer.
+    fn is_timer_first(&self) -> bool
+        ensures yes { result ≡ true → next_due_in self.now ≡ next_due_at self.now.timers }
+        ensures no { result ≡ false → next_due_in self.now ≡ least self.now.ahead }
+    {
+        let Some(end) = self.ahead.least() else {
+            return true;
+        };
+        let Some(due) = self.timers.next_due() else {
+            return false;
+        };
+        due <= end
+    }
+
+    // A timer that is due before all other timers.
+    fn timer_due(&self) -> Option<DueBy>
+        ensures some { is_some result ≡ is_some (next_due_at self.now.timers) }
+        ensures due { (t : ℕ) → next_due_at self.now.timers ≡ Some t → IfSome result (IsDueIn self.now t) }
+    {
+        match self.timers.soonest() {
+            Some(s) => Some(DueBy::Timer(s)),
+            None => None,
+        }
+    }
+
+    // A block whose limit is before all other limits.
+    fn wait_due(&self) -> Option<DueBy>
+        ensures some { is_some result ≡ is_some (least self.now.ahead) }
+        ensures due { (t : ℕ) → least self.now.ahead ≡ Some t → IfSome result (IsDueIn self.now t) }
+    {
+        match self.ahead.soonest() {
+            Some(b) => Some(DueBy::Wait(Blk(b))),
+            None => None,
+        }
+    }
+
+    /// What is due next: a timer, or a block whose wait reaches its limit.
+    pub fn due_by(&self) -> Option<DueBy>
+        ensures some { is_some result ≡ is_some (next_due_in self.now) }
+        ensures due { (t : ℕ) → next_due_in self.now ≡ Some t → IfSome result (IsDueIn self.now t) }
+    {
+        if self.is_timer_first() {
+            return self.timer_due();
+        }
+        self.wait_due()
     }
 
     // The limit of a wait of so many milliseconds that begins now: no later than `until` (dispatch_semaphore_wait(3),
