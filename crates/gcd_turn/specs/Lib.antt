@@ -1,5 +1,6 @@
 pub mod Asked
 pub mod Hearing
+pub mod Named
 pub mod Outsides
 pub mod Promises
 pub mod Times

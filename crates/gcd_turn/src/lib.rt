@@ -17,7 +17,7 @@
 //! | | 6. a wait may expire | [`Ask::Put`] of the Expire of the lowest-numbered block whose wait may |
 //! | | 7. the engine's: what worker 0 chooses | [`Ask::Work`], with that choice and the milliseconds to the next due time |
 //! | `idle` | 8. where a feed is live, one poll | a Halt at a fault; else what came is news |
-//! | | 9. else, where a due time is left, nothing runs and no intake is open, a wait for it | |
+//! | | 9. else, where a due time is left, nothing runs and no intake is open, a wait for it, of which the clock gets the name of what is due | |
 //!
 //! Due times are those of timers, and the limits of waits that are not over.
 //!
@@ -31,6 +31,7 @@
 //! | `Promises` | what is promised of the outside, over the states of poller and clock before and after the calls: `IsHeard`, `IsTimely` |
 //! | `Hearing`, `Timing` | the invariants from which the promises follow: `Heard`, `TimeKept` |
 //! | `Turns`, `Asked`, `Times` | what each step answers |
+//! | `Named` | what is due, by the names that the clock gets |
 //! | `Outsides` | the outside before and after calls on it |
 //!
 //! The promises follow for every engine that places what it is told to, since the invariants speak of a history that grows:

@@ -163,7 +163,7 @@ impl<'a, P: Poller, C: Clock> Outside<'a, P, C> {
                 Err(Failed) => Some(Event::Halt),
             };
         }
-        wait(self.outlook.start(), machine, self.clock);
+        wait(self.outlook.start(), plan, machine, self.clock);
         None
     }
 }

@@ -1,24 +1,25 @@
 // The steps of a turn.
-ghost use Rattle.std.specs.Prelude.{◌≡◌, ◌≤◌, ◌<◌, ◌++◌, [], ℕ, true, false, List, length, IfSome, IfNone, OnOk, OnErr};
+ghost use Rattle.std.specs.Prelude.{◌≡◌, ◌≤◌, ◌<◌, ◌++◌, [], ℕ, true, false, max, List, length, Some, IfSome, IfNone, OnOk, OnErr};
 ghost use Rattle.gcd_plan.specs.Limits.{max_objects};
 ghost use Rattle.gcd_plan.specs.PlanView.{PlanView};
 ghost use Rattle.gcd_event.specs.declared.event.Event.{Event};
 ghost use Rattle.gcd_history.specs.Ends.{HasEnded};
-ghost use Rattle.gcd_history.specs.History.{choice_of, is_live_feed, running_of};
+ghost use Rattle.gcd_history.specs.History.{choice_of, is_live_feed, next_due_of, running_of};
 ghost use Rattle.gcd_machine.specs.Stands.{StandsFor};
 ghost use Rattle.gcd_outer.specs.declared.limits.TheConstants.{MAX_FEEDS};
 ghost use Rattle.gcd_outer.specs.Outside.{seen};
 ghost use Rattle.gcd_outer.specs.Tells.{PollerState};
 ghost use Rattle.gcd_turn.specs.Asked.{AllWatched, HasFailed, HasNotFailed, KeepsListens, WaitedFor};
 ghost use Rattle.gcd_turn.specs.Hearing.{Heard};
+ghost use Rattle.gcd_turn.specs.Named.{NamesDue};
 ghost use Rattle.gcd_turn.specs.Times.{IsTime, IsPollWait};
 ghost use Rattle.gcd_turn.specs.Turns.{HasRoom, OutlookView, event_of};
 ghost use Rattle.gcd_turn.specs.declared.limits.TheConstants.{POLL_WAIT};
 
 use crate::limits::POLL_WAIT;
 use gcd_event::Event;
-use gcd_machine::Machine;
-use gcd_outer::{Clock, Failed, Poller, Tell};
+use gcd_machine::{DueBy, Machine};
+use gcd_outer::{Clock, Due, Failed, Poller, Tell};
 use gcd_plan::{Obj, Plan};
 
 // What the clock asks for.
@@ -180,8 +181,42 @@ pub(crate) fn poll_wait(machine: &Machine, left: Option<u32>) -> u32
     }
 }
 
-// Waits for the next due time, where there is one, nothing runs and no intake is open.
-pub(crate) fn wait<C: Clock>(start: u64, machine: &Machine, clock: &mut C)
+// What is due next, by its name in the plan. A machine that stands for no history may name any timer or block, so what is named is looked
+// at.
+fn next_by_name<'a>(plan: &'a Plan, machine: &Machine) -> Option<Due<'a>>
+    ensures due { (h : List Event) (t : ℕ) → StandsFor machine.now plan.now h → next_due_of plan.now h ≡ Some t
+        → IfSome result (NamesDue plan.now h t) }
+{
+    match machine.due_by()? {
+        DueBy::Timer(s) => {
+            if s.0 >= plan.objects() {
+                return None;
+            }
+            Some(Due::Timer(plan.name_of_obj(s)))
+        }
+        DueBy::Wait(b) => {
+            if b.0 >= plan.blocks() {
+                return None;
+            }
+            Some(Due::Wait(plan.name_of_blk(b)))
+        }
+    }
+}
+
+// Waits until the present is at least `t`, which is the next due time, and tells the clock what is due.
+fn wait_by_name<C: Clock>(t: u64, plan: &Plan, machine: &Machine, clock: &mut C)
+    ensures reached { t ≤ (C.state clock.new).present }
+    ensures goes_on { (C.state clock.old).present ≤ (C.state clock.new).present }
+    ensures waited { C.tells ≡ true → (C.state clock.new).waited ≡ max ((C.state clock.old).waited) t }
+{
+    match next_by_name(plan, machine) {
+        Some(due) => clock.wait_for(t, due),
+        None => clock.wait_until(t),
+    }
+}
+
+// Waits for the next due time, if there is one, nothing runs and no intake is open. The clock gets the name of what is due then.
+pub(crate) fn wait<C: Clock>(start: u64, plan: &Plan, machine: &Machine, clock: &mut C)
     ensures goes_on { (C.state clock.old).present ≤ (C.state clock.new).present }
     ensures waited { (plan : PlanView) (h : List Event) → StandsFor machine.now plan h → C.tells ≡ true
         → WaitedFor plan h start (C.state clock.old) (C.state clock.new) }
@@ -193,6 +228,6 @@ pub(crate) fn wait<C: Clock>(start: u64, machine: &Machine, clock: &mut C)
         return;
     }
     if let Some(due) = machine.next_due() {
-        clock.wait_until(start.saturating_add(u64::from(due)));
+        wait_by_name(start.saturating_add(u64::from(due)), plan, machine, clock);
     }
 }
