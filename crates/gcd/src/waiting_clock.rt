@@ -1,7 +1,7 @@
 // A clock that says that it waits.
 ghost use Rattle.std.specs.Prelude.{◌≡◌};
 
-use gcd_outer::Clock;
+use gcd_outer::{Clock, Due};
 use gcd_why::Grouped;
 
 /// How far a moment must be ahead for the clock to say that it waits, in milliseconds.
@@ -45,12 +45,21 @@ impl<'a, R: Eprint, C: Clock> Clock for WaitingClock<'a, R, C> {
     }
 
     fn wait_until(&mut self, t: u64) {
+        self.clock.wait_until(t)
+    }
+
+    fn wait_for(&mut self, t: u64, due: Due<'_>) {
         if self.is_watched {
             if t.saturating_sub(self.clock.now()) > PATIENCE {
-                let due = Grouped(t.saturating_sub(self.start.unwrap_or(0)));
-                let _ = eprintln!(self.rt; "waiting until {due} ms");
+                let end = Grouped(t.saturating_sub(self.start.unwrap_or(0)));
+                let _ = match due {
+                    Due::Timer(name) => eprintln!(self.rt; "waiting until {end} ms: timer {name}"),
+                    Due::Wait(name) => {
+                        eprintln!(self.rt; "waiting until {end} ms: the wait of {name}")
+                    }
+                };
             }
         }
-        self.clock.wait_until(t)
+        self.clock.wait_for(t, due)
     }
 }
