@@ -26,5 +26,5 @@ pub record IsWaitDue (plan : PlanView) (h : List Event) (t : ℕ) (name : List �
 
 -- what is named is due at t
 abbrev pub NamesDue : PlanView → List Event → ℕ → Due → Type 0
-NamesDue plan h t (Timer name) = IsTimerDue plan h t name
-NamesDue plan h t (Wait name) = IsWaitDue plan h t name
+NamesDue plan h t (Timer name) = IsTimerDue plan h t name.now
+NamesDue plan h t (Wait name) = IsWaitDue plan h t name.now
