@@ -6,7 +6,8 @@
 #   `JobsInput::run` makes whether they pay or not: one keeps a list, more share the log. Peers that keep a journal (bench/peers) run a script of this shape, if they are
 #   installed: oneTBB, Boost.Asio and rayon (Debian's libtbb-dev, libboost-dev, and librust-rayon-dev with cargo);
 # - the large script with more bytes a block, at which workers may cost no more than one;
-# - 16,384 blocks of 16 KiB each on 64 serial queues, and on one concurrent queue; and 64 blocks of 16 MiB each on a concurrent queue.
+# - 16,384 blocks of 16 KiB each on 64 serial queues, and on one concurrent queue; 64 blocks of 16 MiB each on a concurrent queue; and the
+#   words of 16 MiB once, in 64 parts, which `apply` submits.
 #
 # Each time is nanoseconds a block: `first` is the first run of a process, `best` its fastest of nine. Processes take turns, the peers' too.
 # Of `first` the least is printed, of `best` the least and the median. Memory is the most that a process had, its plan included. Two and
@@ -76,7 +77,7 @@ short() {
 # A process runs at full speed or at about half, whichever program it is, so a median needs many processes.
 for _ in 1 2 3 4 5 6 7 8 9; do
     for _ in 1 2 3 4 5; do short; done
-    for plan in serial wide heavy; do
+    for plan in serial wide heavy parts; do
         for team in alone 2 4 64; do once "$bench" "$plan" "$team"; done
         for count in 2 4; do together "$count" "$plan" alone; done
     done
