@@ -34,13 +34,11 @@ pub fn registered_words(alloc: Global, sight: Sight, b: Blk) -> Result<Option<St
         let (group, count) = (sight.name_of_object(g), sight.scene.object(g).count());
         return Ok(Some(format!(in alloc; "group {group} still counts {count}")?));
     }
-    match now.after {
-        Some(first) => {
-            let block = sight.name_of_block(first);
-            Ok(Some(format!(in alloc; "{block} has not ended")?))
-        }
-        None => Ok(None),
-    }
+    let Some(first) = now.after else {
+        return Ok(None);
+    };
+    let block = sight.name_of_block(first);
+    Ok(Some(format!(in alloc; "{block} has not ended")?))
 }
 
 // What a wait at a semaphore waits for.
