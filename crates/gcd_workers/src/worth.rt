@@ -45,6 +45,9 @@ pub(crate) fn has_long_file(files: &[Vec<u8>]) -> bool {
 // Returns whether the block's work counts so many bytes that it can be long.
 #[inline(always)]
 fn has_many_bytes(plan: &Plan, b: Blk) -> bool {
+    if b.0 >= plan.blocks() {
+        return false;
+    }
     match plan.work(b) {
         Some(work) => counting_time(How::Words, u64::from(work.len)) >= LONG_TIME,
         None => false,
