@@ -1,5 +1,5 @@
 -- What each step of a turn keeps of what the clock said.
-use Rattle.std.proofs.Common.{◌≡◌, ◌≤◌, ◌<◌, ◌+◌, ◌∙◌, ◌++◌, ◌⊎◌, ℕ, Bool, true, List, [], ◌∷◌, Some, length, sym, subst, arith, max, ⊎_elim, inl, inr}
+use Rattle.std.proofs.Common.{◌≡◌, ◌≤◌, ◌<◌, ◌+◌, ◌∙◌, ◌++◌, ◌⊎◌, ℕ, Bool, true, false, List, [], ◌∷◌, Some, length, sym, subst, arith, max, take, ⊎_elim, inl, inr}
 use Rattle.std.specs.Prelude.{Contains}
 use Rattle.std.proofs.lemmas.Bool.{cases_lt}
 use Rattle.std.proofs.lemmas.List.{length_push, take-append-le, take_all}
@@ -7,7 +7,7 @@ use Rattle.std.proofs.lemmas.List.Elements.{Contains-push_cases}
 use Rattle.gcd_plan.specs.PlanView.{PlanView}
 use Rattle.gcd_event.specs.declared.event.Event.{Event}
 use Rattle.gcd_event.specs.declared.event.Event.TheVariants.{Tick}
-use Rattle.gcd_history.specs.History.{next_due_of}
+use Rattle.gcd_history.specs.History.{is_intake_open, next_due_of, running_of}
 use Rattle.gcd_outer.specs.Outside.{ClockState, Seen}
 use Rattle.gcd_turn.specs.Asked.{IsDueWait, WaitedFor}
 use Rattle.gcd_turn.specs.Promises.{IsDueMoment, IsTimely, later_by}
@@ -15,13 +15,17 @@ use Rattle.gcd_turn.specs.Timing.{TimeKept}
 use Rattle.gcd_turn.proofs.FeedSteps.{more_at}
 
 due_moment_more : (plan : PlanView) (h : List Event) (e : Event) (start moment : ℕ) → IsDueMoment plan h start moment → IsDueMoment plan (h ++ e ∷ []) start moment
-due_moment_more plan h e start moment is = record {
-  position = is.position;
-  due = is.due;
-  within = let within = is.within in omega (arith, length_push h e, within);
-  is_due = subst (λ (k : List Event). next_due_of plan k ≡ Some is.due) (sym (take-append-le is.position h (e ∷ []) is.within)) is.is_due;
-  moment_is = is.moment_is;
-}
+due_moment_more plan h e start moment is =
+    let same = sym (take-append-le is.position h (e ∷ []) is.within) in
+    record {
+      position = is.position;
+      due = is.due;
+      within = let within = is.within in omega (arith, length_push h e, within);
+      is_due = subst (λ (k : List Event). next_due_of plan k ≡ Some is.due) same is.is_due;
+      resting = subst (λ (k : List Event). running_of plan k ≡ 0) same is.resting;
+      shut = subst (λ (k : List Event). is_intake_open plan k ≡ false) same is.shut;
+      moment_is = is.moment_is;
+    }
 
 -- an event more
 pub time_more : (tells : Bool) (plan : PlanView) (stood placed : List Event) (e : Event) (before now : ClockState) (start : ℕ)
@@ -71,6 +75,7 @@ time_waited tells plan stood placed before now next start on for kept = record {
   ticks = λ t stands. let tick = kept.ticks t stands in omega (arith, on, tick);
   waited = λ told.
       let h : List Event = stood ++ placed in
+      let whole : h ≡ take (length h) h = sym (take_all (length h) h (omega arith)) in
       let same : next.waited ≡ now.waited → (next.waited ≡ before.waited) ⊎ IsDueMoment plan h start next.waited =
       λ e. ⊎_elim (λ (none : now.waited ≡ before.waited). inl (e ∙ none))
       (λ (is : IsDueMoment plan h start now.waited). inr (subst (λ (m : ℕ). IsDueMoment plan h start m) (sym e) is)) (kept.waited told) in
@@ -82,7 +87,9 @@ time_waited tells plan stood placed before now next start on for kept = record {
         position = length h;
         due = w.due;
         within = omega arith;
-        is_due = subst (λ (k : List Event). next_due_of plan k ≡ Some w.due) (sym (take_all (length h) h (omega arith))) w.is_due;
+        is_due = subst (λ (k : List Event). next_due_of plan k ≡ Some w.due) whole w.is_due;
+        resting = subst (λ (k : List Event). running_of plan k ≡ 0) whole w.resting;
+        shut = subst (λ (k : List Event). is_intake_open plan k ≡ false) whole w.shut;
         moment_is = w.waited ∙ own;
       }))
       (max_is now.waited (later_by start w.due)))

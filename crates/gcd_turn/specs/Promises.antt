@@ -1,13 +1,13 @@
 -- What the turns of worker 0 promise of the outside: what poller and clock said, and what stands in the journal. A history
 -- is `stood ++ placed`: what stood when the calls began, and what was placed in them.
-use Rattle.std.specs.Prelude.{◌≡◌, ◌≤◌, ◌<◌, ◌+◌, ◌-◌, ◌++◌, ◌==◌, ◌⊎◌, ℕ, true, List, [], ◌∷◌, length, min, take, drop, if◌then◌else◌, Some, Contains}
+use Rattle.std.specs.Prelude.{◌≡◌, ◌≤◌, ◌<◌, ◌+◌, ◌-◌, ◌++◌, ◌==◌, ◌⊎◌, ℕ, true, false, List, [], ◌∷◌, length, min, take, drop, if◌then◌else◌, Some, Contains}
 use Rattle.std.specs.List.{list_all, flat_map}
 use Rattle.gcd_plan.specs.PlanView.{PlanView, path_of}
 use Rattle.gcd_plan.specs.declared.numbers.Obj.{Obj}
 use Rattle.gcd_event.specs.declared.event.Event.{Event}
 use Rattle.gcd_event.specs.declared.event.Event.TheVariants.{Start, Act as Acted, Wake, End, Deliver, DeliverEnd, Tick, Ready, FeedEnd, Misuse, Halt, Expire, Accept, Shut}
 use Rattle.gcd_history.specs.Ends.{IsHalted}
-use Rattle.gcd_history.specs.History.{is_live_feed, next_due_of}
+use Rattle.gcd_history.specs.History.{is_intake_open, is_live_feed, next_due_of, running_of}
 use Rattle.gcd_outer.specs.Outside.{ClockState, Rises, Seen}
 use Rattle.gcd_outer.specs.Tells.{PollerState, is_empty_answer, is_end_told, told_of}
 use Rattle.gcd_outer.specs.declared.tell.Tell.{Tell}
@@ -104,15 +104,19 @@ pub record IsHeard (most : ℕ) (plan : PlanView) (stood placed : List Event) (s
 abbrev pub later_by : (moment ms : ℕ) → ℕ
 later_by moment ms = min (moment + ms) 18446744073709551615
 
--- the moment is a next due time, at some position of the history, after the start
+-- the moment is a next due time, so long after the start, at a position of the history at which no run is open and unparked and no
+-- intake is open
 pub record IsDueMoment (plan : PlanView) (h : List Event) (start moment : ℕ) : Type 0 where
   pub position : ℕ
   pub due : ℕ
   pub within : position ≤ length h
   pub is_due : next_due_of plan (take position h) ≡ Some due
+  pub resting : running_of plan (take position h) ≡ 0
+  pub shut : is_intake_open plan (take position h) ≡ false
   pub moment_is : moment ≡ later_by start due
 
--- no Tick is ahead of the clock; and where the clock tells and was waited on for longer than ever, that was for a due time
+-- no Tick is ahead of the clock; and where the clock tells and was waited on for longer than ever, that was for a due time, while nothing
+-- ran
 pub record IsTimely (plan : PlanView) (stood placed : List Event) (seen : Seen ClockState) : Type 0 where
   pub ticks : (t : ℕ) → Contains placed (Tick t) → t ≤ seen.after.present - seen.before.present
   pub waits : seen.tells ≡ true → seen.before.waited < seen.after.waited

@@ -17,13 +17,12 @@
 //! | | 6. a wait may expire | [`Ask::Put`] of the Expire of the lowest-numbered block whose wait may |
 //! | | 7. the engine's: what worker 0 chooses | [`Ask::Work`], with that choice and the milliseconds to the next due time |
 //! | `idle` | 8. where a feed is live, one poll | a Halt at a fault; else what came is news |
-//! | | 9. else, where a due time is left, nothing runs and no intake is open, a wait for it, of which the clock gets the name of what is due | |
+//! | | 9. else, where a due time is left, nothing runs and no intake is open, a wait for it; the clock gets the name of what is due | |
 //!
 //! Due times are those of timers, and the limits of waits that are not over.
 //!
 //! A poll waits 10 milliseconds, not past the next due time, and not at all where a run is open and not parked or the intake is
-//! open. An empty
-//! answer to a wait counts; [`EMPTY_ANSWERS`] of them in a row, while the history does not grow and nothing runs, end each
+//! open. An empty answer to a wait counts; [`EMPTY_ANSWERS`] of them in a row, while the history does not grow and nothing runs, end each
 //! live feed.
 //!
 //! | file of specs/ | says |
