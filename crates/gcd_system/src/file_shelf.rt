@@ -2,8 +2,8 @@
 ghost use Rattle.std.specs.Prelude.{◌≡◌, ◌≤◌, ◌<◌, ℕ, false, None, length, OnOk, IsErrOf};
 
 use gcd_outer::{LoadFault, Shelf};
-use std::fs;
-use std::io::Read;
+use std::fs::{self, OpenFile};
+use std::io::{ErrorKind, Read};
 use std::rt::Files;
 
 /// A shelf over the system's files; a name is a path from the folder that the program runs in. It
@@ -35,7 +35,7 @@ impl<'a, R: Files> Shelf for FileShelf<'a, R> {
                 self.faults = self.faults.saturating_add(1);
                 Err(LoadFault::Failed)
             }
-            Ok(mut file) => match read_whole(&mut file, most, into) {
+            Ok(file) => match read_whole(file, most, into) {
                 Ok(()) => Ok(()),
                 Err(fault) => {
                     into.clear();
@@ -49,27 +49,42 @@ impl<'a, R: Files> Shelf for FileShelf<'a, R> {
     }
 }
 
-// Reads to the end, or until more than `most` bytes are there.
-fn read_whole<F: Read>(file: &mut F, most: usize, into: &mut Vec<u8>) -> Result<(), LoadFault>
+// The number of bytes that the file says it has; 0 if it does not say.
+fn said_size<F: OpenFile>(file: &F) -> u64 {
+    match file.metadata() {
+        Ok(about) => about.len(),
+        Err(_) => 0,
+    }
+}
+
+// Reads to the end, or until more than `most` bytes are there. Makes room at once for the size that the file says it has.
+fn read_whole<F: Read + OpenFile + Drop>(
+    file: F,
+    most: usize,
+    into: &mut Vec<u8>,
+) -> Result<(), LoadFault>
     ensures fits { OnOk result (length into.new.items ≤ most) }
     ensures no_missing { IsErrOf result LoadFault.Missing → ⊥ }
     ensures seen { (n : ℕ) → IsErrOf result (LoadFault.TooLong n) → most < n }
 {
     into.clear();
-    let mut buffer = [0u8; 4096];
-    for _ in 0..u64::MAX {
-        match file.read(&mut buffer) {
-            Err(_) => return Err(LoadFault::Failed),
-            Ok(0) => return Ok(()),
-            Ok(count) => {
-                if into.extend_from_slice(&buffer[..count]).is_err() {
-                    return Err(LoadFault::Memory);
-                }
-                if into.len() > most {
-                    return Err(LoadFault::TooLong(into.len()));
-                }
+    let size = said_size(&file).min(most as u64) as usize;
+    if into.reserve(size.saturating_add(1)).is_err() {
+        return Err(LoadFault::Memory);
+    }
+    let limit = (most as u64).saturating_add(1);
+    match file.take(limit).read_to_end(into) {
+        Ok(_) => {
+            if into.len() > most {
+                return Err(LoadFault::TooLong(into.len()));
             }
+            Ok(())
+        }
+        Err(e) => {
+            if e.kind() == ErrorKind::OutOfMemory {
+                return Err(LoadFault::Memory);
+            }
+            Err(LoadFault::Failed)
         }
     }
-    Err(LoadFault::Failed)
 }
