@@ -196,10 +196,11 @@ class Desk:
 
 def judge_script(desk, text, workers):
     """What is wrong with the answers to a script, by the reader of docs/formats.md; and its journal is checked. For several workers the
-    script gets a read source, so that a team runs it whatever its works cost."""
+    script gets a read source, so that a team runs it whatever its works cost. A handler may merge into its own source, so a run may go on
+    for ever; it gets a limit of events."""
     text = text if workers == "1" else FEED + text
     desk.write("script", text)
-    answer = desk.call("run", "script", "--journal", "--workers", workers)
+    answer = desk.call("run", "script", "--journal", "--workers", workers, "--most", "20000")
     why = why_not("run", answer, 8)
     if why:
         return why, answer

@@ -133,8 +133,8 @@ def threads_fail(words, room):
     """Each thread of a run is refused, alone and with all later ones. A long run may give up, after ten seconds, and nothing is written: of
     its threads the first two are refused."""
     part, count = Part("senders, threads are refused"), 0
-    for blocks, senders in ((8, 1), (8, 3), (40, 8), (4096, 8)):
-        write(room, b"queue q serial\nintake q %d\nmain\n" % blocks)
+    for kind, blocks, senders in (("serial", 8, 1), ("concurrent", 8, 3), ("concurrent", 40, 8), ("concurrent", 4096, 8)):
+        write(room, f"queue q {kind}\nintake q {blocks}\nmain\n".encode())
         call_words = ["front", "script", str(senders)]
         ample = call(words.program, call_words, room)
         for later in (False, True):

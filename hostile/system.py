@@ -131,7 +131,7 @@ def threads_fail(program):
     part, count = Part("threads are refused"), 0
     beside = f"{FOLDER.name}/beside"
     with open(beside, "w", encoding="ascii") as it:
-        it.write("queue q serial\nintake q 64\nmain\n")
+        it.write("queue q concurrent\nintake q 64\nmain\n")
     # Its read source is never activated; with it there is a team whatever the works cost.
     team = f"{FOLDER.name}/team"
     with open(team, "w", encoding="ascii") as it:

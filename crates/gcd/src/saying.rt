@@ -5,8 +5,8 @@ use crate::script_shelf::ScriptShelf;
 use gcd_plan::MAX_EVENTS;
 use gcd_run::{Account, Found, Status};
 use gcd_why::{
-    CUT_OFF, Judged, NO_INTAKE, NO_MEMORY, RunEnd, Sentence, Unread, line_of_feed, why_ended,
-    why_event, why_journal, why_script, why_words,
+    CUT_OFF, Judged, NO_INTAKE, NO_MEMORY, NO_MEMORY_OR_THREAD, RunEnd, Sentence, Unread,
+    line_of_feed, why_ended, why_event, why_journal, why_script, why_words,
 };
 use gcd_words::{CheckRequest, Request};
 use std::alloc::Global;
@@ -181,6 +181,16 @@ fn say_unread<R: Eprint + Files>(
     say(rt, &unread);
 }
 
+// What was wanting, if memory or threads were: a call with one worker asks for no thread.
+fn wanting(request: Option<Request>) -> &'static str {
+    match request {
+        Some(Request::Run(request)) if request.workers > 1 => NO_MEMORY_OR_THREAD,
+        Some(Request::Big(request)) if request.workers > 1 => NO_MEMORY_OR_THREAD,
+        Some(Request::Front(_)) => NO_MEMORY_OR_THREAD,
+        _ => NO_MEMORY,
+    }
+}
+
 /// Says why the call ended as it did. If memory runs out, it says no more.
 pub fn say_ended<R: Eprint + Files>(
     rt: &R,
@@ -193,7 +203,7 @@ pub fn say_ended<R: Eprint + Files>(
     if status == Status::CutOff.code() {
         say_text(rt, CUT_OFF);
     } else if status == Status::NoMemory.code() {
-        say_text(rt, NO_MEMORY);
+        say_text(rt, wanting(call.request));
     } else if status == Status::NoCommand.code() {
         say(rt, &why_words(call.words));
     } else if status == Status::Unread.code() {

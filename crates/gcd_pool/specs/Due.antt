@@ -1,5 +1,5 @@
 -- What a turn of a worker has to put, and what its answer says of that.
-use Rattle.std.specs.Prelude.{◌≡◌, ◌≤◌, ◌+◌, ◌⊎◌, ℕ, List, length, true, Some, None}
+use Rattle.std.specs.Prelude.{◌≡◌, ◌≤◌, ◌+◌, ◌⊎◌, ℕ, length, true, Some, None}
 use Rattle.gcd_plan.specs.declared.numbers.Obj.{Obj}
 use Rattle.gcd_plan.specs.declared.why.Why.{Why}
 use Rattle.gcd_event.specs.declared.event.Event.{Event}

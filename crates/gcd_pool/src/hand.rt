@@ -5,6 +5,7 @@ ghost use Rattle.gcd_steal.specs.Racks.{IsBenchOf};
 ghost use Rattle.gcd_row.specs.Views.{held_run};
 ghost use Rattle.gcd_pool.specs.Hands.{IsGatheredBy, IsPool, IsReady, IsSamePool};
 
+use crate::fault::PoolFault;
 use gcd_event::Entry;
 use gcd_plan::Plan;
 use gcd_row::{RowBoard, RowPass, Slot};
@@ -29,6 +30,8 @@ pub struct Pool<'a, S: Slot> {
     pub(crate) alone: bool,
     // Worker 0's journal was refused memory, or a worker's thread was never made. From then on nobody waits.
     stopped: AtomicBool,
+    // A worker's thread was never made.
+    unserved: AtomicBool,
     // One bit for each worker that has begun to serve or to lead.
     begun: AtomicU64,
 }
@@ -46,6 +49,7 @@ impl<'a, S: Slot> Pool<'a, S> {
             plan,
             alone: false,
             stopped: AtomicBool::new(false),
+            unserved: AtomicBool::new(false),
             begun: AtomicU64::new(0),
         }
     }
@@ -61,6 +65,7 @@ impl<'a, S: Slot> Pool<'a, S> {
             plan: self.plan,
             alone: hands == 1,
             stopped: AtomicBool::new(false),
+            unserved: AtomicBool::new(false),
             begun: AtomicU64::new(0),
         }
     }
@@ -86,6 +91,21 @@ impl<'a, S: Slot> Pool<'a, S> {
     // Stops the team: worker 0's journal was refused memory, or a worker's thread was never made.
     pub(crate) fn stop(&self) {
         self.stopped.store(true, Ordering::SeqCst);
+    }
+
+    // Stops the team because a worker's thread was never made.
+    pub(crate) fn stop_unserved(&self) {
+        self.unserved.store(true, Ordering::SeqCst);
+        self.stop();
+    }
+
+    // Returns why the team was stopped.
+    pub(crate) fn fault(&self) -> PoolFault {
+        if self.unserved.load(Ordering::SeqCst) {
+            PoolFault::NoThread
+        } else {
+            PoolFault::Memory
+        }
     }
 
     // Returns whether the team was stopped.

@@ -51,7 +51,8 @@
 //!
 //! Where memory is refused to worker 0's journal the team stops, and also where no thread was made for a worker: that is taken to be so
 //! where a worker that has not begun holds an event for ten seconds. Worker 0 leaves then, each helper that is held leaves
-//! ([`Turn::Stopped`]), and each other once it has nothing to do, whatever it has seen. [`pool_run`] answers an `Err`.
+//! ([`Turn::Stopped`]), and each other once it has nothing to do, whatever it has seen. [`pool_run`] answers which of the two it was
+//! ([`PoolFault`]).
 //!
 //! # Contract
 //!
@@ -77,14 +78,15 @@
 //! # What it does not say
 //!
 //! No clause says that a helper ever places an event, that it has a thread of its own, that a team of one makes no thread, or that a call
-//! returns. No clause says when a team stops. The flag that stops it is a plain word, so the clauses give no cause of an `Err` of
-//! [`pool_run`]. Of a `Stopped` turn they say that a passed word held its event, or that it is worker 0's, and not that memory was refused or
-//! that no thread was made. No clause follows a Drain from where a call laid it down.
+//! returns. No clause says when a team stops, or which [`PoolFault`] it was: the flags that tell are plain words. Of a `Stopped` turn they
+//! say that a passed word held its event, or that it is worker 0's, and not that memory was refused or that no thread was made. No clause
+//! follows a Drain from where a call laid it down.
 #![tactic(auto)]
 
 mod admit_cells;
 mod drains;
 mod duty;
+mod fault;
 mod finding;
 mod front_idle;
 mod hand;
@@ -103,6 +105,7 @@ mod turn;
 pub use admit_cells::AdmitCells;
 pub use drains::{begin, begin_near};
 pub use duty::{Duty, Exit, duty_of};
+pub use fault::PoolFault;
 pub use front_idle::FrontIdle;
 pub use hand::{Hand, Pool};
 pub use idle::Idle;

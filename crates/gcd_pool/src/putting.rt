@@ -82,7 +82,7 @@ fn let_go<S: Slot, R: Wait>(
         return false;
     }
     if idle.has_waited_long() && !pool.has_begun(by) {
-        pool.stop();
+        pool.stop_unserved();
         return false;
     }
     idle.pause(rt);

@@ -12,6 +12,7 @@ ghost use Rattle.gcd_pool.specs.Admitted.{AreLed, AsksOfFront};
 ghost use Rattle.gcd_turn.specs.Outsides.{IsSame};
 
 use crate::duty::{Exit, exit_of, has_ended};
+use crate::fault::PoolFault;
 use crate::hand::{Hand, Pool};
 use crate::team::run_hands;
 use gcd_front::{Front, Intake, Sent};
@@ -19,7 +20,6 @@ use gcd_jobs::{Admits, Handler, Job};
 use gcd_outer::{Clock, Poller};
 use gcd_row::{Cell, Slot};
 use gcd_turn::Outside;
-use std::alloc::AllocError;
 use std::sync::Wait;
 use std::thread::Threads;
 
@@ -65,8 +65,9 @@ fn see_the_ends<S: Slot, R: Wait>(rt: &R, pool: &Pool<S>, hands: &mut Vec<Hand<S
 /// and pushes no Drain. If each event that its row has more than before the call is worker 0's, it follows the choice of its machine there.
 ///
 /// The result tells how the run has ended. Worker 0 has seen the whole row then, and has it in its journal: only a Halt could follow, and
-/// only worker 0 puts a Halt. Returns `Err` if the journal was refused memory, or no thread was made for a worker; no clause gives this cause.
-/// Then worker 0 leaves, the others leave when they have nothing to do or are held, and each hand is still one of the pool.
+/// only worker 0 puts a Halt. Returns `Err` if the journal was refused memory, or no thread was made for a worker. The [`PoolFault`] tells
+/// which, and no clause says so. Then worker 0 leaves, the others leave when they have nothing to do or are held, and each hand is still
+/// one of the pool.
 ///
 /// Worker 0's front has at most 64 senders, and the intake is of this front. The jobs that it has taken of a sender are those of the blocks
 /// that were accepted of it (`Admitted` of `specs/Admitted`). Before the first event, an intake that has taken nothing is enough. A job that
@@ -85,7 +86,7 @@ pub fn pool_run<
     front: &Front<X>,
     intake: &mut Intake<X>,
     outside: &mut Outside<P, C>,
-) -> Result<Exit, AllocError>
+) -> Result<Exit, PoolFault>
     requires some { 0 < vec_len hands.old }
     requires hands { All (IsReady (shape_of H.kind H.times H.total) (gives_of J.gives) pool.now) hands.old.items }
     requires asks { (d : Hand (Cell J H)) → AsksOfFront (gives_of J.gives) X.gives front.now (slice_index_or hands.old.items 0 d) intake.old }
@@ -107,7 +108,7 @@ pub fn pool_run<
         R,
     >(rt, &team, hands.as_mut_slice(), front, intake, outside);
     if !done {
-        return Err(AllocError);
+        return Err(team.fault());
     }
     see_the_ends(rt, &team, hands);
     Ok(exit_of(hands[0].pass.machine()))

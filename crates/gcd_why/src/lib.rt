@@ -10,7 +10,8 @@
 //! | [`why_words`] | which word of a command line is refused |
 //! | [`Unread`], [`line_of_feed`] | what could not be read; the line of the script that names a feed |
 //! | [`Grouped`] | a number with commas |
-//! | [`CUT_OFF`], [`NO_MEMORY`], [`NO_INTAKE`] | that standard output cannot be written; that memory ran out; that a script has no intake |
+//! | [`CUT_OFF`], [`NO_INTAKE`] | that standard output cannot be written; that a script has no intake |
+//! | [`NO_MEMORY`], [`NO_MEMORY_OR_THREAD`] | that memory ran out; that it did, or that the system makes no thread for a worker |
 //!
 //! A [`Sentence`] is one line, with the file, as the caller named it, and the line.
 //!
@@ -44,4 +45,4 @@ pub use named::{NO_INTAKE, line_of_feed};
 pub use run::{RunEnd, why_ended};
 pub use script::why_script;
 pub use sentence::Sentence;
-pub use unread::{CUT_OFF, NO_MEMORY, Unread};
+pub use unread::{CUT_OFF, NO_MEMORY, NO_MEMORY_OR_THREAD, Unread};

@@ -52,3 +52,6 @@ pub const CUT_OFF: &str = "standard output cannot be written";
 
 /// What is said where memory runs out.
 pub const NO_MEMORY: &str = "out of memory";
+
+/// What is said of a call that may have a team, where memory runs out or the system makes no thread for a worker.
+pub const NO_MEMORY_OR_THREAD: &str = "out of memory, or the system makes no thread for a worker";

@@ -171,6 +171,18 @@ module _ {J X : Type 0} (gives : J → ℕ → ℕ → Type 0) (sent : X → ℕ
         others = left.given.others;
       }
 
+  -- a run by fewer workers than were asked for
+  pub runs_front_of_fewer : (d : JobsInput J) (n : ℕ) (f : FrontView) (i : IntakeView X) (poller : Seen PollerState) (clock : Seen ClockState) (ran : Ran)
+      → 0 < n → n ≤ d.workers → RunsFront gives sent (record d { workers = n }) f i poller clock ran → RunsFront gives sent d f i poller clock ran
+  runs_front_of_fewer d n f i poller clock ran some few left =
+      let run = left.run in
+      record left {
+        run = record run {
+          by = λ k e at. let by = run.by k e at in omega (arith, few, by);
+          chosen = λ one. run.chosen (omega (arith, some, few, one));
+        };
+      }
+
 module _ {J X : Type 0} (gives : J → ℕ → ℕ → Type 0) (sent : X → ℕ → Type 0) where
   -- a block whose job is one of these, and not none
   own_given : (jobs : List J) (values : List (Option ℕ)) (b : ℕ) → b < length jobs → IsGiven (gives_or_zero gives) (map Some jobs) values b → IsGiven gives jobs values b

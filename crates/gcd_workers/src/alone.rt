@@ -17,6 +17,7 @@ use crate::over::Over;
 use crate::refused::RunRefused;
 use gcd_loop::{Stop, run_turns};
 use gcd_outer::{Clock, Poller};
+use gcd_pool::PoolFault;
 use gcd_turn::Outside;
 use std::alloc::{AllocError, Global};
 use std::sync::Wait;
@@ -63,7 +64,7 @@ pub(crate) fn without_team<R: Wait, P: Poller, C: Clock>(
     kept: Kept,
     workers: u8,
     outside: &mut Outside<P, C>,
-) -> Result<Outcome, AllocError>
+) -> Result<Outcome, PoolFault>
     requires some { 0 < workers }
     requires run { IsKept over kept }
     ensures went { IfOk result (GoesOnOverFiles over.entry workers kept.journal.items (faced P.tells C.tells P.state C.state outside.old outside.new)) }

@@ -124,8 +124,8 @@ impl<J: Job + Drop + Send> JobsInput<'_, J> {
     /// with room accepts a job, and that each job is run if the run does not end early. A job that is sent beyond the room is refused, or
     /// accepted and never run.
     ///
-    /// The poller watches no feed yet. Returns `Err` only if memory runs out, or if the system makes no thread for a worker on whom all
-    /// others wait. The callers may have been called by then. After [`RunRefused::BeforeTheRun`] no job has run, and poller and clock are as
+    /// The poller watches no feed yet. Returns `Err` only if memory runs out, or if the system makes no thread for a worker on whom another
+    /// waits. The callers may have been called by then. After [`RunRefused::BeforeTheRun`] no job has run, and poller and clock are as
     /// they were (`before`). The poller listens where it did (`kept`).
     pub fn run_beside<
         X: Sent + Drop + Send,

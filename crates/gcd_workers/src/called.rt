@@ -24,6 +24,13 @@ impl<X: Sent> Job for Called<X> {
             Called::Sent(job) => job.call(),
         }
     }
+
+    fn is_long(&self) -> bool {
+        match self {
+            Called::Nothing => false,
+            Called::Sent(_) => true,
+        }
+    }
 }
 
 impl<X: Sent> Admits<X> for Called<X> {

@@ -11,7 +11,8 @@ use crate::ran::Ran;
 use crate::running_jobs::run_by_team;
 use gcd_jobs::Job;
 use gcd_plan::{Blk, MAX_EVENTS, MAX_WORKERS, Plan};
-use std::alloc::{AllocError, Global};
+use gcd_pool::PoolFault;
+use std::alloc::Global;
 use std::sync::Wait;
 use std::thread::Threads;
 
@@ -81,9 +82,10 @@ impl<'a> Dispatch<'a> {
     /// call makes board, rack, tallies, poller and clock, and drops them.
     ///
     /// Returns the first refusal that applies: [`JobsRefused::WorkerCount`] exactly if the number of workers is 0 or greater than
-    /// `MAX_WORKERS`, which is 64, [`JobsRefused::EventCount`] exactly if otherwise `most` is 0, and [`JobsRefused::OutOfMemory`] only if
-    /// memory runs out, or the system makes no thread for a worker on whom all others wait. Each leaves nothing of a run, and the jobs are
-    /// dropped; but the last may come in the midst of a run, and then some jobs have run. The first two make no job.
+    /// `MAX_WORKERS`, which is 64, [`JobsRefused::EventCount`] exactly if otherwise `most` is 0, [`JobsRefused::OutOfMemory`] only if memory
+    /// runs out, and [`JobsRefused::NoThread`] only if the system makes no thread for a worker on whom another waits. Each leaves nothing of a
+    /// run, and the jobs are dropped; but the last two may come in the midst of a run, and then some jobs have run. The first two make no
+    /// job.
     pub fn run<J: Job + Drop + Send, F: Fn(Blk) -> J, R: Threads + Wait + Sync>(
         self,
         rt: &R,
@@ -115,8 +117,7 @@ impl<'a> Dispatch<'a> {
     ///
     /// Returns the first refusal that applies: [`JobsRefused::JobCount`] exactly if the number of jobs is not that of the plan's blocks,
     /// [`JobsRefused::WorkerCount`] exactly if otherwise the number of workers is 0 or greater than `MAX_WORKERS`, which is 64,
-    /// [`JobsRefused::EventCount`] exactly if otherwise `most` is 0, and [`JobsRefused::OutOfMemory`] as of [`Dispatch::run`]. Each drops
-    /// the jobs.
+    /// [`JobsRefused::EventCount`] exactly if otherwise `most` is 0, and the other two as of [`Dispatch::run`]. Each drops the jobs.
     pub fn run_list<J: Job + Drop + Send, R: Threads + Wait + Sync>(
         self,
         rt: &R,
@@ -144,7 +145,8 @@ impl<'a> Dispatch<'a> {
         }
         match run_by_team(rt, alloc, self.plan, self.workers, self.most, jobs) {
             Ok(run) => Ok(run),
-            Err(AllocError) => Err(JobsRefused::OutOfMemory),
+            Err(PoolFault::Memory) => Err(JobsRefused::OutOfMemory),
+            Err(PoolFault::NoThread) => Err(JobsRefused::NoThread),
         }
     }
 }

@@ -21,10 +21,9 @@ use gcd_event::Entry;
 use gcd_front::{Front, Intake, Sent};
 use gcd_jobs::{Admits, Handler, Job};
 use gcd_outer::{Clock, Poller};
-use gcd_pool::{Hand, pool_run};
+use gcd_pool::{Hand, PoolFault, pool_run};
 use gcd_row::{Cell, Pass, RowBoard, RowPass, Slot};
 use gcd_turn::Outside;
-use std::alloc::AllocError;
 use std::sync::Wait;
 use std::thread::Threads;
 
@@ -94,7 +93,7 @@ impl<J: Job + Drop + Send, H: Handler + Drop + Send> Team<'_, '_, Cell<J, H>> {
     /// The pass that it leaves has seen the whole row. That history promises what a run of any engine does (`RunsPlan`), up to the board's
     /// limit of events, and which jobs the blocks of each sender ran (`Admitted`). No other pass is out, and the journal beside the pass is
     /// what was gathered of it, so the board may be closed with both. The poller watches no feed yet. Returns `Err` if worker 0, which
-    /// gathers what it has seen, is refused memory, or if the system makes no thread for a worker on whom all others wait. Blocks may have
+    /// gathers what it has seen, is refused memory, or if the system makes no thread for a worker on whom another waits. Blocks may have
     /// run then. All threads have ended, nothing is left of the run, and the poller listens where it did (`kept`).
     pub fn run<X: Sent + Drop + Send, R: Threads + Wait + Sync, P: Poller, C: Clock>(
         self,
@@ -103,7 +102,7 @@ impl<J: Job + Drop + Send, H: Handler + Drop + Send> Team<'_, '_, Cell<J, H>> {
         intake: &mut Intake<X>,
         poller: &mut P,
         clock: &mut C,
-    ) -> Result<(Pass<J, H>, Vec<Entry>), AllocError>
+    ) -> Result<(Pass<J, H>, Vec<Entry>), PoolFault>
     where
         J: Admits<X>,
         requires some { (0 < length self.hands.items) × (length self.hands.items ≤ max_workers) }
@@ -125,7 +124,7 @@ impl<J: Job + Drop + Send, H: Handler + Drop + Send> Team<'_, '_, Cell<J, H>> {
         let mut outside = Outside::new(poller, clock);
         match self.go_on(rt, front, intake, &mut outside) {
             Ok(left) => Ok(left),
-            Err(AllocError) => Err(AllocError),
+            Err(fault) => Err(fault),
         }
     }
 
@@ -139,7 +138,7 @@ impl<J: Job + Drop + Send, H: Handler + Drop + Send> Team<'_, '_, Cell<J, H>> {
         front: &Front<X>,
         intake: &mut Intake<X>,
         outside: &mut Outside<P, C>,
-    ) -> Result<(Pass<J, H>, Vec<Entry>), AllocError>
+    ) -> Result<(Pass<J, H>, Vec<Entry>), PoolFault>
     where
         J: Admits<X>,
         requires some { (0 < length self.hands.items) × (length self.hands.items ≤ max_workers) }
@@ -165,7 +164,7 @@ impl<J: Job + Drop + Send, H: Handler + Drop + Send> Team<'_, '_, Cell<J, H>> {
                 look_round(pool.board, &mut pass);
                 Ok((pass, journal))
             }
-            Err(AllocError) => Err(AllocError),
+            Err(fault) => Err(fault),
         }
     }
 }

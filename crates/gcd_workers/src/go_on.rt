@@ -18,23 +18,23 @@ use crate::room::Room;
 use crate::team::Team;
 use crate::works::outcome_of;
 use gcd_outer::{Clock, Poller};
-use gcd_pool::Pool;
+use gcd_pool::{Pool, PoolFault};
 use gcd_steal::Rack;
 use gcd_turn::Outside;
-use std::alloc::{AllocError, Global};
+use std::alloc::Global;
 use std::sync::Wait;
 use std::thread::Threads;
 
 /// Goes on by a team from what a list has kept, until the run is quiescent or halted, or has as many events as it may have. Worker 0 holds
 /// no run. `outside` is that of the list. If memory for the team is refused, worker 0 goes on alone. Returns `Err` if memory is refused
-/// later, or the system makes no thread for a worker on whom all others wait. Nothing is left of the run then.
+/// later, or the system makes no thread for a worker on whom another waits. Nothing is left of the run then.
 pub(crate) fn go_on<R: Threads + Wait + Sync, P: Poller, C: Clock>(
     rt: &R,
     alloc: Global,
     run: ListRun,
     workers: u8,
     outside: &mut Outside<P, C>,
-) -> Result<Outcome, AllocError>
+) -> Result<Outcome, PoolFault>
     requires most { 0 < run.over.most }
     requires workers { (0 < workers) × (workers ≤ max_workers) }
     requires run { IsKept run.over run.kept }

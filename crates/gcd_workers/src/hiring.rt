@@ -1,7 +1,8 @@
 // How many hands a team needs.
 ghost use Rattle.std.specs.Prelude.{◌<◌, ◌≤◌};
 
-use gcd_plan::{Act, Blk, Obj, Plan, Run};
+use gcd_jobs::Job;
+use gcd_plan::{Act, Blk, Kind, Obj, Plan, Run};
 
 /// How many hands a team of at most so many workers, at least 1, has for the plan: as many as the plan can have
 /// runs that are open and not parked at one moment, and no more than `workers`. Such runs are one of `main`, one on each serial queue and
@@ -22,6 +23,68 @@ pub fn team_size(plan: &Plan, workers: u8) -> u8
         size = with_acts(plan, plan.acts(Run::Block(Blk(number))), size, workers);
     }
     size
+}
+
+/// Returns how many hands a team of at most so many workers, at least 1, has for a plan with these jobs, one for each block, beside so many
+/// senders. One is enough if at most one long job can run at a time and nothing outside holds worker 0 up: no job of the plan itself is long,
+/// the senders' jobs come to a serial queue, and no source and no wait asks for time or bytes. Otherwise there are as many as [`team_size`]
+/// says. That more gain nothing is why there are none, and no clause.
+pub(crate) fn hands_for<J: Job>(plan: &Plan, workers: u8, jobs: &[J], senders: u8) -> u8
+    requires { 0 < workers }
+    ensures some { 0 < result }
+    ensures few { result ≤ workers }
+{
+    if has_long_job(plan, jobs) || is_sent_wide(plan, senders) || meets_outside(plan) {
+        return team_size(plan, workers);
+    }
+    1
+}
+
+// Whether a block of the plan itself has a long job. A block of the intake runs what a sender sent instead.
+fn has_long_job<J: Job>(plan: &Plan, jobs: &[J]) -> bool {
+    for (number, job) in jobs.iter().enumerate() {
+        if !is_of_intake(plan, number) && job.is_long() {
+            return true;
+        }
+    }
+    false
+}
+
+fn is_of_intake(plan: &Plan, number: usize) -> bool {
+    match plan.intake() {
+        Some((_, first, count)) => {
+            let first = first as usize;
+            first <= number && number - first < count as usize
+        }
+        None => false,
+    }
+}
+
+// Whether senders may send jobs to a concurrent queue.
+fn is_sent_wide(plan: &Plan, senders: u8) -> bool {
+    match plan.intake() {
+        Some((queue, _, count)) => senders > 0 && wide_blocks(plan, queue, count) > 0,
+        None => false,
+    }
+}
+
+// Whether a timer or a feed is to be heard, or a wait may come to its limit.
+fn meets_outside(plan: &Plan) -> bool {
+    for number in 0..plan.objects() {
+        match plan.kind(Obj(number)) {
+            Kind::Timer { .. } | Kind::Read => return true,
+            _ => {}
+        }
+    }
+    for number in 0..plan.blocks() {
+        for act in plan.acts(Run::Block(Blk(number))) {
+            match act {
+                Act::GroupWaitFor(..) | Act::WaitFor(..) => return true,
+                _ => {}
+            }
+        }
+    }
+    false
 }
 
 // A hand for `main`, and one for each serial queue and each source; at most so many workers.

@@ -9,9 +9,10 @@ ghost use Rattle.gcd_turn.specs.Asked.{KeepsListens};
 ghost use Rattle.gcd_workers.specs.CallersRuns.{RunsFront};
 ghost use Rattle.gcd_workers.specs.declared.refused.RunRefused.{RunRefused};
 
+use crate::hiring::hands_for;
 use crate::jobs_board::{close, open};
 use crate::ran::Ran;
-use crate::refused::RunRefused;
+use crate::refused::{RunRefused, begun_refused};
 use crate::room::Room;
 use crate::team::Team;
 use gcd_front::{Front, Intake, Sent};
@@ -32,7 +33,9 @@ pub(crate) const MOST_PUSHES: u32 = 4_096;
 pub struct JobsInput<'a, J> {
     /// The plan.
     pub plan: &'a Plan,
-    /// The number of workers, 1 to 64. The run has all of them, whatever the plan.
+    /// The run has at most this many workers, 1 to 64: no more than there can be work for ([`team_size`](crate::team_size)), and one if no job
+    /// of `jobs` is long ([`Job::is_long`]), senders send to a serial queue or not at all, and the plan has no timer, no read source and no
+    /// wait with a limit.
     pub workers: u8,
     /// The run ends at this many events, at least 1. `MAX_EVENTS` of `gcd_plan` is the limit of all runs.
     pub most: u32,
@@ -53,10 +56,10 @@ impl<J: Job + Drop + Send> JobsInput<'_, J> {
     /// until the intake is full. Jobs that are sent beyond that stay in the queue of the front.
     ///
     /// One worker runs alone, in this thread, over a list. `poller` and `clock` are the outside, and the poller watches no feed yet. Returns
-    /// `Err` only if memory runs out, or if the system makes no thread for a worker on whom all others wait. Before the first turn that is
-    /// [`RunRefused::BeforeTheRun`], and poller, clock and intake are as they were (`before`). Later it is [`RunRefused::InTheRun`]: jobs
-    /// may have run, and jobs that were taken are gone. Nothing is left of the run: the jobs are dropped, the threads have ended, and the
-    /// poller listens where it did (`kept`).
+    /// `Err` only if memory runs out, before the first turn [`RunRefused::BeforeTheRun`], and poller, clock and intake are as they were
+    /// (`before`), later [`RunRefused::InTheRun`]; or [`RunRefused::NoThread`] if the system makes no thread for a worker on whom another
+    /// waits. After these two jobs may have run, and jobs that were taken are gone. Nothing is left of the run: the jobs are dropped, the
+    /// threads have ended, and the poller listens where it did (`kept`).
     pub fn run<X: Sent + Drop + Send, R: Threads + Wait + Sync, P: Poller, C: Clock>(
         self,
         rt: &R,
@@ -83,15 +86,22 @@ impl<J: Job + Drop + Send> JobsInput<'_, J> {
         ensures kept { KeepsListens P.tells (P.state poller.old) (P.state poller.new) }
         ensures before { IsErrOf result RunRefused.BeforeTheRun → (poller.new ≡ poller.old) × (clock.new ≡ clock.old) × (intake.new ≡ intake.old) }
     {
-        if self.workers == 1 {
-            return self.run_by_one(rt, alloc, front, intake, poller, clock);
-        }
         let JobsInput {
             plan,
             workers,
             most,
             jobs,
         } = self;
+        let workers = hands_for(plan, workers, &jobs, front.senders());
+        if workers == 1 {
+            let given = JobsInput {
+                plan,
+                workers,
+                most,
+                jobs,
+            };
+            return given.run_by_one(rt, alloc, front, intake, poller, clock);
+        }
         let Ok((rack, benches)) = Rack::new(alloc, plan, workers, MOST_PUSHES) else {
             return Err(RunRefused::BeforeTheRun);
         };
@@ -103,8 +113,9 @@ impl<J: Job + Drop + Send> JobsInput<'_, J> {
         };
         let pool = Pool::new(&board, &rack, plan);
         let team = Team::new(&pool, pass, room, Vec::new(alloc));
-        let Ok((last, gathered)) = team.run(rt, front, intake, poller, clock) else {
-            return Err(RunRefused::InTheRun);
+        let (last, gathered) = match team.run(rt, front, intake, poller, clock) {
+            Ok(left) => left,
+            Err(fault) => return Err(begun_refused(fault)),
         };
         drop(pool);
         match close(alloc, board, last, gathered) {

@@ -12,8 +12,10 @@ pub enum JobsRefused {
     /// The number of events that there may be is 0.
     EventCount,
     /// Memory ran out: before the first event, after the last, or where the journal had to grow in the midst of the run, and then some
-    /// jobs have run. Or the system made no thread for a worker for ten seconds, while all others waited for it.
+    /// jobs have run.
     OutOfMemory,
+    /// The system made no thread for a worker, and another waited for that worker for ten seconds. Some jobs may have run.
+    NoThread,
 }
 
 impl fmt::Display for JobsRefused {
@@ -23,6 +25,7 @@ impl fmt::Display for JobsRefused {
             JobsRefused::WorkerCount => write!(f, "the number of workers is 0 or above 64"),
             JobsRefused::EventCount => write!(f, "the number of events is 0"),
             JobsRefused::OutOfMemory => write!(f, "out of memory"),
+            JobsRefused::NoThread => write!(f, "the system made no thread for a worker"),
         }
     }
 }

@@ -11,10 +11,10 @@
 //! | the same beside a front (`gcd_front`) that the caller made, in a thread of its own by [`run_beside`], beside a [`Side`] | [`JobsInput::run`] |
 //! | a board with handlers of one's own, and a rack | [`Team`] |
 //!
-//! [`JobsInput::run`] makes rack, board and pool, and a [`Team`] of a hand for each worker, and closes the board at the end. The board is made
-//! for as many workers as there are hands, because a worker that never passes on what it has seen would hold the others. For one worker it
-//! makes none of them: worker 0 runs alone over its list, which has a job or a value for each block, and takes the jobs of outside callers
-//! as they come. It starts and ends a block at once where it can.
+//! [`JobsInput::run`] makes rack, board and pool, and a [`Team`] of as many hands as there can be work for, and closes the board at the end.
+//! The board is made for as many workers as there are hands, because a worker that never passes on what it has seen would hold the others.
+//! For one worker it makes none of them: worker 0 runs alone over its list, which has a job or a value for each block, and takes the jobs of
+//! outside callers as they come. It starts and ends a block at once where it can.
 //!
 //! [`run_workers`] begins with worker 0 alone, which keeps the events in a list, as [`run_alone`] does to the end. Before the Start of a long
 //! block it asks [`hands_worth`] whether a team pays. If so, a board is made whose row begins with the list. Its slots have the values of the

@@ -1,4 +1,7 @@
 // Why a run leaves nothing.
+ghost use Rattle.std.specs.Prelude.{◌≢◌};
+
+use gcd_pool::PoolFault;
 use std::alloc::AllocError;
 use std::error::Error;
 use std::fmt;
@@ -8,9 +11,10 @@ use std::fmt;
 pub enum RunRefused {
     /// Memory ran out before the first turn: no block has run, and poller and clock are as they were.
     BeforeTheRun,
-    /// Memory ran out in the run or after it, or the system made no thread for a worker on whom all others waited for ten seconds:
-    /// blocks may have run, and what poller and clock have told is told.
+    /// Memory ran out in the run or after it: blocks may have run, and what poller and clock have told is told.
     InTheRun,
+    /// The system made no thread for a worker, and another waited for that worker for ten seconds. As of `InTheRun`, blocks may have run.
+    NoThread,
 }
 
 impl fmt::Display for RunRefused {
@@ -18,6 +22,7 @@ impl fmt::Display for RunRefused {
         match self {
             RunRefused::BeforeTheRun => write!(f, "out of memory before the run"),
             RunRefused::InTheRun => write!(f, "out of memory in the run"),
+            RunRefused::NoThread => write!(f, "the system made no thread for a worker"),
         }
     }
 }
@@ -27,5 +32,24 @@ impl Error for RunRefused {}
 impl From<RunRefused> for AllocError {
     fn from(_refused: RunRefused) -> AllocError {
         AllocError
+    }
+}
+
+impl From<RunRefused> for PoolFault {
+    fn from(refused: RunRefused) -> PoolFault {
+        match refused {
+            RunRefused::BeforeTheRun | RunRefused::InTheRun => PoolFault::Memory,
+            RunRefused::NoThread => PoolFault::NoThread,
+        }
+    }
+}
+
+// Why a run that has begun leaves nothing.
+pub(crate) fn begun_refused(fault: PoolFault) -> RunRefused
+    ensures { result ≢ RunRefused.BeforeTheRun }
+{
+    match fault {
+        PoolFault::Memory => RunRefused::InTheRun,
+        PoolFault::NoThread => RunRefused::NoThread,
     }
 }

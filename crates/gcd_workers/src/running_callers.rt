@@ -15,6 +15,7 @@ use crate::silent::SilentPoller;
 use gcd_front::{MAX_SENDERS, Sent};
 use gcd_outer::JumpClock;
 use gcd_plan::{MAX_EVENTS, MAX_WORKERS, Plan};
+use gcd_pool::PoolFault;
 use std::alloc::{AllocError, Global};
 use std::sync::Wait;
 use std::thread::Threads;
@@ -38,7 +39,7 @@ fn run_by_callers<X: Sent + Drop + Send, C: Callers<X>, R: Threads + Wait + Sync
     workers: u8,
     senders: u8,
     callers: &mut C,
-) -> Result<Ran, AllocError>
+) -> Result<Ran, PoolFault>
     requires workers { (0 < workers) × (workers ≤ max_workers) }
     requires senders { senders ≤ max_senders }
     ensures { IfOk result (RunsCallers X.gives (C.called callers.old callers.new) plan.now workers senders) }
@@ -55,11 +56,12 @@ fn run_by_callers<X: Sent + Drop + Send, C: Callers<X>, R: Threads + Wait + Sync
     Ok(ran)
 }
 
-/// Runs a plan whose work comes from callers outside, and the callers beside it: the plan by so many workers, each in a thread of its own,
-/// until the run is quiescent, or a misuse ends it, or it has as many events as a run can have; and in this thread `callers`, which hand in jobs through
-/// the mouths of so many senders (dispatch_async(3)). The next block of the plan's intake runs each job that is accepted, and the values lie
-/// by block ([`Ran`]); the journal tells by an `Accept` each which block is whose job. The blocks of the plan itself have no work of their
-/// own, and give 0 ([`Called`](crate::Called)). How mouths, front and threads go along is told at
+/// Runs a plan whose work comes from callers outside, and the callers beside it: the plan by at most so many workers, each in a thread of its
+/// own, until the run is quiescent, or a misuse ends it, or it has as many events as a run can have; and in this thread `callers`, which hand
+/// in jobs through the mouths of so many senders (dispatch_async(3)). There are no more workers than there can be work for: one if the intake
+/// is on a serial queue, and the plan has no timer, no read source and no wait with a limit. The next block of the plan's intake runs each
+/// job that is accepted, and the values lie by block ([`Ran`]); the journal tells by an `Accept` each which block is whose job. The blocks of
+/// the plan itself have no work of their own, and give 0 ([`Called`](crate::Called)). How mouths, front and threads go along is told at
 /// [`JobsInput::run_beside`](crate::JobsInput::run_beside).
 ///
 /// The outside is in memory, as [`Dispatch`](crate::Dispatch) has it: no feed is told of, and time jumps. A caller with feeds, with a
@@ -67,10 +69,10 @@ fn run_by_callers<X: Sent + Drop + Send, C: Callers<X>, R: Threads + Wait + Sync
 ///
 /// Returns the first refusal that applies: [`CallersRefused::NoIntake`] exactly if the plan has no intake,
 /// [`CallersRefused::WorkerCount`] exactly if otherwise the number of workers is 0 or greater than `MAX_WORKERS`, which is 64,
-/// [`CallersRefused::SenderCount`] exactly if otherwise the number of senders is 0 or greater than `MAX_SENDERS`, which is 64, and
-/// [`CallersRefused::OutOfMemory`] only if memory runs out, or the system makes no thread for a worker on whom all others wait. Each leaves
-/// nothing of a run. With the last the callers may have been called, and jobs may have run. With the others no job has run, and the callers are
-/// as they were.
+/// [`CallersRefused::SenderCount`] exactly if otherwise the number of senders is 0 or greater than `MAX_SENDERS`, which is 64,
+/// [`CallersRefused::OutOfMemory`] only if memory runs out, and [`CallersRefused::NoThread`] only if the system makes no thread for a worker
+/// on whom another waits. Each leaves nothing of a run. With the last two the callers may have been called, and jobs may have run. With the
+/// others no job has run, and the callers are as they were.
 pub fn run_callers<X: Sent + Drop + Send, C: Callers<X>, R: Threads + Wait + Sync>(
     rt: &R,
     alloc: Global,
@@ -104,6 +106,7 @@ pub fn run_callers<X: Sent + Drop + Send, C: Callers<X>, R: Threads + Wait + Syn
     }
     match run_by_callers(rt, alloc, plan, workers, senders, callers) {
         Ok(run) => Ok(run),
-        Err(AllocError) => Err(CallersRefused::OutOfMemory),
+        Err(PoolFault::Memory) => Err(CallersRefused::OutOfMemory),
+        Err(PoolFault::NoThread) => Err(CallersRefused::NoThread),
     }
 }

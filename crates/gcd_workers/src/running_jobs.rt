@@ -4,7 +4,6 @@ ghost use Rattle.gcd_plan.specs.Limits.{max_workers};
 ghost use Rattle.gcd_plan.specs.Validity.{IsPlan};
 ghost use Rattle.gcd_workers.specs.JobsRuns.{RunsJobs};
 
-use crate::hiring::team_size;
 use crate::jobs_input::JobsInput;
 use crate::nobodys_front::nobodys_front;
 use crate::ran::Ran;
@@ -12,6 +11,7 @@ use crate::silent::SilentPoller;
 use gcd_jobs::Job;
 use gcd_outer::JumpClock;
 use gcd_plan::Plan;
+use gcd_pool::PoolFault;
 use std::alloc::{AllocError, Global};
 use std::sync::Wait;
 use std::thread::Threads;
@@ -23,15 +23,15 @@ fn some_of_each<J: Drop>(alloc: Global, jobs: Vec<J>) -> Result<Vec<Option<J>>, 
     jobs.into_iter().map(Some).collect(alloc)
 }
 
-// Returns how many hands there can be work for, at most `workers`: one if no job is long.
-fn hands_for<J: Job>(plan: &Plan, workers: u8, jobs: &[J]) -> u8
+// Returns the number of workers, but one if no job is long: nothing holds worker 0 up where the outside is in memory.
+fn workers_for<J: Job>(workers: u8, jobs: &[J]) -> u8
     requires { 0 < workers }
     ensures some { 0 < result }
     ensures few { result ≤ workers }
 {
     for job in jobs {
         if job.is_long() {
-            return team_size(plan, workers);
+            return workers;
         }
     }
     1
@@ -45,7 +45,7 @@ pub fn run_by_team<J: Job + Drop + Send, R: Threads + Wait + Sync>(
     workers: u8,
     most: u32,
     jobs: Vec<J>,
-) -> Result<Ran, AllocError>
+) -> Result<Ran, PoolFault>
     requires valid { IsPlan plan.now }
     requires jobs { length jobs.items ≡ length plan.now.blocks }
     requires workers { (0 < workers) × (workers ≤ max_workers) }
@@ -56,7 +56,7 @@ pub fn run_by_team<J: Job + Drop + Send, R: Threads + Wait + Sync>(
     let (front, mut intake) = nobodys_front(alloc)?;
     let given = JobsInput {
         plan,
-        workers: hands_for(plan, workers, &jobs),
+        workers: workers_for(workers, &jobs),
         most,
         jobs: some_of_each(alloc, jobs)?,
     };

@@ -15,11 +15,12 @@ use crate::hire::Hire;
 use crate::list_run::ListRun;
 use crate::outcome::Outcome;
 use crate::over::Over;
-use crate::refused::RunRefused;
+use crate::refused::{RunRefused, begun_refused};
 use gcd_loop::{Stop, run_turns};
 use gcd_outer::{Clock, Poller};
+use gcd_pool::PoolFault;
 use gcd_turn::Outside;
-use std::alloc::{AllocError, Global};
+use std::alloc::Global;
 use std::sync::Wait;
 use std::thread::Threads;
 
@@ -30,7 +31,7 @@ fn run_on<R: Threads + Wait + Sync, P: Poller, C: Clock>(
     mut run: ListRun,
     workers: u8,
     outside: &mut Outside<P, C>,
-) -> Result<Outcome, AllocError>
+) -> Result<Outcome, PoolFault>
     requires most { 0 < run.over.most }
     requires workers { (0 < workers) × (workers ≤ max_workers) }
     requires run { IsKept run.over run.kept }
@@ -58,10 +59,10 @@ fn run_on<R: Threads + Wait + Sync, P: Poller, C: Clock>(
 /// shares row, rack and pool. If the plan has a read source, the team is there from the first event on, because the poller may hold
 /// worker 0. There are no outside callers, so an intake of the plan is shut at once. The poller watches no feed yet.
 ///
-/// If memory for a team is refused, worker 0 goes on alone. Otherwise the call returns `Err` if memory runs out, or if the system makes no
-/// thread for a worker on whom all others wait (`gcd_pool`). Before the first turn that is [`RunRefused::BeforeTheRun`], and poller and
-/// clock are as they were (`before`). Later it is [`RunRefused::InTheRun`]: blocks may have run, and news from the poller may be lost.
-/// Nothing is left of the run: the threads have ended, and the poller listens where it did (`kept`).
+/// If memory for a team is refused, worker 0 goes on alone. Otherwise the call returns `Err` if memory runs out: before the first turn
+/// [`RunRefused::BeforeTheRun`], and poller and clock are as they were (`before`), and later [`RunRefused::InTheRun`]. It returns
+/// [`RunRefused::NoThread`] if the system makes no thread for a worker on whom another waits (`gcd_pool`). After both blocks may have run,
+/// and news from the poller may be lost. Nothing is left of the run: the threads have ended, and the poller listens where it did (`kept`).
 pub fn run_workers<R: Threads + Wait + Sync, P: Poller, C: Clock>(
     rt: &R,
     alloc: Global,
@@ -88,6 +89,6 @@ pub fn run_workers<R: Threads + Wait + Sync, P: Poller, C: Clock>(
     let mut outside = Outside::new(poller, clock);
     match run_on(rt, alloc, run, workers, &mut outside) {
         Ok(outcome) => Ok(outcome),
-        Err(AllocError) => Err(RunRefused::InTheRun),
+        Err(fault) => Err(begun_refused(fault)),
     }
 }

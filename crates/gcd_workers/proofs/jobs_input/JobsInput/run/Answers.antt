@@ -1,4 +1,5 @@
 use Rattle.std.proofs.Common.{◌≡◌, ◌∙◌, ℕ, length, ap, sym, subst}
+use Rattle.std.proofs.lemmas.Result.{IfOk-weaker}
 use Rattle.gcd_outer.specs.Outside.{ClockState, Seen}
 use Rattle.gcd_outer.specs.Tells.{PollerState}
 use Rattle.gcd_machine.specs.Stands.{StandsFor}
@@ -8,7 +9,8 @@ use Rattle.gcd_steal.specs.declared.bench.Rack.{Rack}
 use Rattle.gcd_pool.specs.declared.hand.Pool.{Pool}
 use Rattle.gcd_workers.specs.Teams.{IsRoom}
 use Rattle.gcd_workers.proofs.Pools.{limits_along}
-use Rattle.gcd_workers.proofs.Senders.{runs_front}
+use Rattle.gcd_workers.specs.declared.jobs_input.JobsInput.{JobsInput}
+use Rattle.gcd_workers.proofs.Senders.{runs_front, runs_front_of_fewer}
 use Rattle.gcd_workers.proofs.jobs_input.JobsInput.run.Goals as goal
 
 pub run-requires-clause-first : goal.run-requires-clause-first
@@ -29,9 +31,18 @@ returns-in-Ok-close-clause-ran g c =
     let told : Seen PollerState = record { tells = g.P.Poller.tells; before = g.P.Poller.state c.args.poller.now; after = g.P.Poller.state c.run.new.poller } in
     let timed : Seen ClockState = record { tells = g.C.Clock.tells; before = g.C.Clock.state c.args.clock.now; after = g.C.Clock.state c.run.new.clock } in
     let last = c.in-Ok-run.ensures in
-    let given = c.args.self in
-    runs_front g.J.Job.gives g.X.Sent.gives c.in-Ok-open.board c.new-team.result.pool.now.board.now c.in-Ok-run.last given (length c.new-team.result.hands.items)
+    let asked = c.args.self in
+    let given : JobsInput g.J.Denot = record asked { workers = c.hands_for.result } in
+    runs_front_of_fewer g.J.Job.gives g.X.Sent.gives asked c.hands_for.result c.args.front.now c.run.new.intake told timed c.in-Ok-close.run' c.hands_for.ensures.some c.hands_for.ensures.few
+    (runs_front g.J.Job.gives g.X.Sent.gives c.in-Ok-open.board c.new-team.result.pool.now.board.now c.in-Ok-run.last given (length c.new-team.result.hands.items)
     c.args.front.now c.run.new.intake told timed c.in-Ok-close.run'
     (ap (λ (p : Pool _). p.board.now) c.new-team.ensures.pool ∙ c.new-pool.ensures.board) last.pass c.in-Ok-open.ensures.plan (ap (λ l. l.most) c.in-Ok-open.ensures.limits)
     (c.new-team.ensures.count ∙ ap (λ l. l.workers) (limits_along c.new-pool.ensures.board ∙ c.in-Ok-open.ensures.limits)) c.in-Ok-close.ensures.journal c.in-Ok-open.ensures.jobs
-    c.requires.jobs c.in-Ok-close.ensures.values last.admitted last.ran c.in-Ok-close.ensures.state
+    c.requires.jobs c.in-Ok-close.ensures.values last.admitted last.ran c.in-Ok-close.ensures.state)
+
+pub returns-then-clause-ran : goal.returns-then-clause-ran
+returns-then-clause-ran g c =
+    IfOk-weaker c.run_by_one.result _ _ (λ run is.
+    runs_front_of_fewer g.J.Job.gives g.X.Sent.gives c.args.self c.hands_for.result c.args.front.now c.run_by_one.new.intake _ _ run
+    c.hands_for.ensures.some c.hands_for.ensures.few is)
+    c.run_by_one.ensures.ran
