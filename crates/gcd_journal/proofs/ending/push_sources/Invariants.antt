@@ -7,4 +7,4 @@ use Rattle.gcd_journal.specs.Totals.{AreTotals}
 use Rattle.gcd_journal.proofs.ending.push_sources.Given as goal
 
 abbrev pub invariant-loop-s : goal.invariant-loop-s
-invariant-loop-s l = (h : List Event) → StandsFor l.machine l.plan h → AreTotals l.plan h l.totals → (string_bytes l.text) ≡ (string_bytes l.fn.text) ++ flat_map (source_line l.plan h) (range_with_len 0 l.s)
+invariant-loop-s l = (h : List Event) → StandsFor l.machine l.plan h → AreTotals l.plan h l.totals → string_bytes l.text ≡ string_bytes l.fn.text ++ flat_map (source_line l.plan h) (range_with_len 0 l.s)
