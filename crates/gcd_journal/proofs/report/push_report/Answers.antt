@@ -17,9 +17,9 @@ returns c = λ value state has are.
     let plan = c.args.plan.now in
     let h = c.args.events.now in
     let stands = c.requires.stands in
-    let same : c.state-state.result ≡ state = one_state plan h c.state-state.result state (c.state-state.ensures plan h stands) has in
+    let same : c.state.result ≡ state = one_state plan h c.state.result state (c.state.ensures plan h stands) has in
     on_ok_weaker c.push_ending.result
-    (λ (last : string_bytes c.push_ending.new.text ≡ string_bytes c.push_results.new.text ++ ending plan c.state-state.result h).
+    (λ (last : string_bytes c.push_ending.new.text ≡ string_bytes c.push_results.new.text ++ ending plan c.state.result h).
     two_parts (string_bytes c.args.text.now) (string_bytes c.push_results.new.text) (string_bytes c.push_ending.new.text)
     (flat_map (result_line plan value h) (range_with_len 0 (length plan.blocks))) (ending plan state h)
     (c.in_ok-push_results.ensures h value stands are)
