@@ -56,7 +56,7 @@ fn push_job_lines(
     requires { machine.now.plan ≡ plan.now }
     ensures { (h : List Event) → StandsFor machine.now plan.now h
         → OnOk result (string_bytes text.new ≡ string_bytes text.old
-            ++ flat_map (job_line plan.now (job_value values.now) h) (range_with_len 0 (length plan.now.blocks))) }
+        ++ flat_map (job_line plan.now (job_value values.now) h) (range_with_len 0 (length plan.now.blocks))) }
 {
     for b in 0..plan.blocks() {
         push_job_line(text, plan, machine, values, Blk(b))?;
