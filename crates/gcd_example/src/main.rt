@@ -1,9 +1,10 @@
 //! A program with a plan and jobs of its own (`PlanBuilder` of `gcd_builder`, `Dispatch` of `gcd_workers`). Three blocks
 //! read a shared number on a concurrent queue, and a fourth writes it as a barrier (dispatch_barrier_async(3)). So the block before the
-//! barrier reads the old number and the blocks behind it read the new one, in each run.
+//! barrier reads the old number and the blocks behind it read the new one, in each run. `main` waits for the last of them
+//! (dispatch_sync(3)), so its own job reads the new number too. The program prints the report of the run.
 //!
-//! Proved: the job of the writer gives the number that it writes, and the plan is valid. Tested: which numbers the readers get, since no
-//! contract says what a plain atomic holds, and what is written.
+//! Proved: the job of the writer gives the number that it writes, the plan is valid, and the text is the report of the run. Tested: which
+//! numbers the readers get, since no contract says what a plain atomic holds, and what is written.
 #![tactic(auto)]
 
 ghost use Rattle.std.specs.Prelude.{◌≡◌, IfSome};
@@ -38,7 +39,8 @@ fn main(rt: HostRuntime) -> anyhow::Result<()> {
     plan.main()
         .async_on(queue, early)
         .barrier(queue, fill)
-        .async_all(queue, &[late, last])
+        .async_on(queue, late)
+        .sync(queue, last)
         .end()?;
     let plan = plan.finish()?;
 
@@ -48,9 +50,6 @@ fn main(rt: HostRuntime) -> anyhow::Result<()> {
         .run(&rt, rt.alloc(), |block| {
             Visit(&cache, (block == fill).then_some(25))
         })?;
-    for name in ["early", "fill", "late", "last"] {
-        let value = plan.block_named(name).and_then(|block| run.value(block));
-        println!(rt; "{name}: {value:?}")?;
-    }
+    print!(rt; "{}", run.report(rt.alloc(), &plan)?)?;
     Ok(())
 }

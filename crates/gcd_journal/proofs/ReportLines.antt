@@ -60,10 +60,10 @@ pub others_submitted : (plan : PlanView) (h : List Event) (b : ℕ) → IsPlan p
 unfolding is_submitted node_of
 others_submitted plan h b valid other = on_node_is plan (reverse h) b (submission_of plan (reverse h) b) valid other refl
 
--- a text that has grown by four parts
-pub four_parts : (began one two three now a b c d : List ℕ) → one ≡ began ++ a → two ≡ one ++ b → three ≡ two ++ c → now ≡ three ++ d → now ≡ began ++ (a ++ (b ++ (c ++ d)))
-four_parts began one two three now a b c d first second third fourth =
-    two_parts began one now a (b ++ (c ++ d)) first (two_parts one two now b (c ++ d) second (two_parts two three now c d third fourth))
+-- a text that has grown by three parts
+pub three_parts : (began one two now a b c : List ℕ) → one ≡ began ++ a → two ≡ one ++ b → now ≡ two ++ c → now ≡ began ++ (a ++ (b ++ c))
+three_parts began one two now a b c first second third =
+    two_parts began one now a (b ++ c) first (two_parts one two now b c second third)
 
 -- the item that a slice gives stands there
 pub last_there : {A : Type 0} (xs : List A) (i : ℕ) (e : Bor A) → Some e.now ≡ slice_get xs i → slice_get xs i ≡ Some e.now

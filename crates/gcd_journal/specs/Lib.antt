@@ -7,3 +7,4 @@ pub mod Named
 pub mod NextLine
 pub mod Totals
 pub mod Taken
+pub mod JobsReport

@@ -12,6 +12,7 @@
 //! | [`judge`] | what [`check`] finds out, and it leaves a machine that stands for all events, or for those before the first that is not permitted (`HasTaken`) |
 //! | [`write_report`] | adds the report of a run (`report_by`), or nothing where memory runs out; it takes the events by a machine of its own |
 //! | [`write_report_by`] | the same by a machine that stands for the events; it takes no step of a machine where no object of the plan is a source |
+//! | [`jobs_report`] | the report of a run of a caller's own jobs (`jobs_report`), by a machine that stands for the events, or out of memory |
 //! | [`laws::journals_are_read_one_way`] | a text is a journal of one list of events at most, and then of no line at fault |
 //! | [`laws::written_journals_are_read`], [`laws::lawful_events_are_spoken`] | what is written is a journal, whatever follows it; lawful events have lines |
 //! | [`laws::one_event_is_barred_first`] | events have at most one first that is not permitted, and lawful ones have none |
@@ -28,11 +29,13 @@
 
 mod cause;
 mod checker;
+mod ending;
 pub mod laws;
 mod lines;
 mod names;
 mod reader;
 mod report;
+mod report_of_jobs;
 mod spelling;
 mod totals;
 mod write;
@@ -41,5 +44,6 @@ pub use cause::{Field, JournalCause};
 pub use checker::{CheckFault, check, judge};
 pub use reader::{JournalFault, read_journal};
 pub use report::{write_last_line, write_report, write_report_by};
+pub use report_of_jobs::jobs_report;
 pub use totals::{Replay, Total, replayed};
 pub use write::write_journal;

@@ -4,9 +4,10 @@
 //! |---|---|
 //! | [`svg`] | the marks as a page of SVG |
 //! | [`trace`] | the marks in the trace event format |
+//! | [`trace_of`] | the same of a run of a plan without a script |
 //!
-//! Both take a [`Showing`]: the marks that [`gcd_timeline::marks`] makes of the journal, the state to which it has come, in words,
-//! and the [`ScriptLines`] of its script. Nothing is promised of the two texts but that they are made or memory runs out;
+//! The first two take a [`Showing`]: the marks that [`gcd_timeline::marks`] makes of the journal, the state to which it has come, in words,
+//! and the [`ScriptLines`] of its script. Nothing is promised of the texts but that they are made or memory runs out;
 //! `gcd_timeline_tests` compares small ones whole.
 #![tactic(auto)]
 
@@ -36,8 +37,8 @@ mod unstarted;
 mod verticals;
 
 pub use escape::{push_json, push_xml};
-pub use naming::run_name;
+pub use naming::{run_name, state_word};
 pub use page::svg;
 pub use script_lines::ScriptLines;
 pub use showing::{Note, Showing};
-pub use tracing::trace;
+pub use tracing::{trace, trace_of};

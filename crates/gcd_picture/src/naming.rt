@@ -2,6 +2,7 @@
 
 use gcd_cause::ActWords;
 use gcd_event::Event;
+use gcd_history::State;
 use gcd_plan::{Act, Obj, Plan, Run};
 use gcd_timeline::act_at;
 use std::alloc::{AllocError, Global};
@@ -113,4 +114,15 @@ pub fn misuse_text(
     let (act, name) = (act_text(alloc, plan, run, index)?, run_name(plan, run));
     let act = act.as_str();
     format!(in alloc; "misuse M{code}: {act} in {name}")
+}
+
+/// The word of a state.
+pub fn state_word(state: State) -> &'static str {
+    match state {
+        State::Drained => "drained",
+        State::Stuck => "stuck",
+        State::Misused => "misuse",
+        State::Halted => "halted",
+        State::Live => "open",
+    }
 }

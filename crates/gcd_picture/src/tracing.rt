@@ -3,11 +3,16 @@
 use crate::bars::{Bar, bars_of};
 use crate::escape::push_json;
 use crate::frame::lanes_of;
-use crate::naming::{act_text, awaited_text, misuse_text, node_name, object_name, run_name};
+use crate::naming::{
+    act_text, awaited_text, misuse_text, node_name, object_name, run_name, state_word,
+};
+use crate::script_lines::ScriptLines;
 use crate::showing::Showing;
 use crate::submissions::Submissions;
-use gcd_event::Event;
-use gcd_plan::Run;
+use gcd_event::{Entry, Event};
+use gcd_history::State;
+use gcd_plan::{Plan, Run};
+use gcd_timeline::marks;
 use std::alloc::{AllocError, Global};
 use std::fmt::Write;
 
@@ -284,4 +289,27 @@ pub fn trace(alloc: Global, showing: Showing) -> Result<String, AllocError> {
         "{\"ph\":\"M\",\"pid\":1,\"name\":\"process_name\",\"args\":{\"name\":\"run\"}}\n]}\n",
     )?;
     Ok(text)
+}
+
+/// Returns the trace of a run that has come to this state, of a plan without a script, as [`trace`] does: no entry has a line or says why
+/// the run has come to its state. Returns `Err` only if memory runs out.
+pub fn trace_of(
+    alloc: Global,
+    plan: &Plan,
+    events: &[Entry],
+    state: State,
+) -> Result<String, AllocError> {
+    let marks = marks(alloc, plan, events)?;
+    let lines = ScriptLines::none(alloc);
+    // A trace has no entry for a block that has not started, so it needs no standing.
+    let showing = Showing {
+        plan,
+        marks: &marks,
+        events,
+        standings: &[],
+        state: state_word(state),
+        notes: &[],
+        lines: &lines,
+    };
+    trace(alloc, showing)
 }

@@ -6,9 +6,8 @@ ghost use Rattle.gcd_history.specs.History.{IsLawful};
 use crate::loading::{Loaded, load_run};
 use crate::request::Request;
 use crate::stop::Stop;
-use gcd_history::State;
 use gcd_outer::Shelf;
-use gcd_picture::{Note, ScriptLines, Showing, svg, trace};
+use gcd_picture::{Note, ScriptLines, Showing, state_word, svg, trace};
 use gcd_plan::MAX_EVENTS;
 use gcd_timeline::{marks, standings};
 use gcd_why::{RunEnd, Sentence, why_ended};
@@ -21,17 +20,6 @@ pub struct Shown<'a> {
     pub text: String,
     /// The sentences of `gcd check` on the run.
     pub said: Vec<Sentence<'a>>,
-}
-
-// The word of a state.
-fn state_word(state: State) -> &'static str {
-    match state {
-        State::Drained => "drained",
-        State::Stuck => "stuck",
-        State::Misused => "misuse",
-        State::Halted => "halted",
-        State::Live => "open",
-    }
 }
 
 // The sentences as notes of a picture.

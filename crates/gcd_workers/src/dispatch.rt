@@ -1,5 +1,6 @@
 // The form of a run of a caller's own jobs.
 ghost use Rattle.std.specs.Prelude.{◌≡◌, ◌≢◌, ◌↔◌, IfOk, IsErrOf, length};
+ghost use Rattle.gcd_machine.specs.Stands.{StandsFor};
 ghost use Rattle.gcd_plan.specs.Limits.{max_events};
 ghost use Rattle.gcd_workers.specs.JobsOf.{RunsJobsOf};
 ghost use Rattle.gcd_workers.specs.JobsRuns.{AreWorkers, IsNoTeam, RunsJobs};
@@ -97,6 +98,7 @@ impl<'a> Dispatch<'a> {
         ensures worker_count { IsErrOf result JobsRefused.WorkerCount ↔ IsNoTeam self.entry.workers }
         ensures event_count { IsErrOf result JobsRefused.EventCount ↔ AreWorkers self.entry.workers × (self.entry.most ≡ 0) }
         ensures ran { IfOk result (RunsJobsOf (λ b job. F.post job_of b job) J.gives self.entry.most self.entry.plan.now self.entry.workers) }
+        ensures stands { IfOk result (λ run. StandsFor run.machine self.entry.plan.now run.journal.items) }
     {
         if self.workers == 0 {
             return Err(JobsRefused::WorkerCount);
@@ -130,6 +132,7 @@ impl<'a> Dispatch<'a> {
         ensures event_count { IsErrOf result JobsRefused.EventCount ↔ ((length jobs.items ≡ length self.entry.plan.now.blocks)
             × AreWorkers self.entry.workers × (self.entry.most ≡ 0)) }
         ensures ran { IfOk result (RunsJobs J.gives self.entry.most self.entry.plan.now jobs.items self.entry.workers) }
+        ensures stands { IfOk result (λ run. StandsFor run.machine self.entry.plan.now run.journal.items) }
     {
         if jobs.len() != self.plan.blocks() as usize {
             return Err(JobsRefused::JobCount);

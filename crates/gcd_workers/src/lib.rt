@@ -34,6 +34,7 @@
 //! | [`hands_worth`] | how many hands run fastest what is left of a run over files, at least 1 |
 //! | [`Dispatch::new`], [`Dispatch::workers`], [`Dispatch::most`] | a run that is asked for: of the plan, by at most so many workers, of at most so many events |
 //! | [`Ran::value`], [`Ran::state`], [`Ran::journal`] | the value of a block, the state, and the events of a run of jobs |
+//! | [`Ran::report`] | the report of a run of jobs as a text (`jobs_report` of `gcd_journal`), or out of memory |
 //! | [`tallies_of`], [`file_jobs`] | a tally for each source, and a job for each block's work, as a board has them, or out of memory |
 //! | [`run_workers`], [`run_alone`] | the journal, the blocks' values, the state and the machine of a run over files (`RunsOverFiles`), or out of memory |
 //! | [`Dispatch::run`] | the same of a run of jobs that a function makes ([`Ran`], `RunsJobsOf`), or why there is none: no number of workers, no event, out of memory |
@@ -53,6 +54,7 @@
 //! | clause of `Dispatch::run_list` | says |
 //! |---|---|
 //! | `ran` (`RunsJobs`) | the journal is lawful, has at most `most` events, and has ended, in the state told, and nothing halts it from outside; whose its events are, as above; and a block has a value exactly if it has ended and is not cancelled, which is one that its own job may give (`AreGiven`) |
+//! | `stands` | the machine that is left stands for the journal, so the run has a report; this holds of each call that runs jobs |
 //! | `job_count`, `worker_count`, `event_count` | it is refused by that name exactly if there is not one job for each block; if otherwise the number of workers is 0 or above 64; and if otherwise there may be no event |
 //!
 //! | clause of `Dispatch::run` | says |

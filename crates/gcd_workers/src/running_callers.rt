@@ -1,6 +1,7 @@
 // One call that runs the jobs of outside callers.
 ghost use Rattle.std.specs.Prelude.{◌≡◌, ◌≢◌, ◌<◌, ◌≤◌, ◌↔◌, None, IfOk, IsErrOf};
 ghost use Rattle.gcd_front.specs.Limits.{max_senders};
+ghost use Rattle.gcd_machine.specs.Stands.{StandsFor};
 ghost use Rattle.gcd_plan.specs.Limits.{max_workers};
 ghost use Rattle.gcd_workers.specs.CalledRuns.{IsNoCrowd, RunsCallers, nothings};
 ghost use Rattle.gcd_workers.specs.JobsRuns.{AreWorkers, IsNoTeam};
@@ -42,7 +43,8 @@ fn run_by_callers<X: Sent + Drop + Send, C: Callers<X>, R: Threads + Wait + Sync
 ) -> Result<Ran, PoolFault>
     requires workers { (0 < workers) × (workers ≤ max_workers) }
     requires senders { senders ≤ max_senders }
-    ensures { IfOk result (RunsCallers X.gives (C.called callers.old callers.new) plan.now workers senders) }
+    ensures ran { IfOk result (RunsCallers X.gives (C.called callers.old callers.new) plan.now workers senders) }
+    ensures stands { IfOk result (λ run. StandsFor run.machine plan.now run.journal.items) }
 {
     let mut poller = SilentPoller::new();
     let given = JobsInput {
@@ -88,6 +90,7 @@ pub fn run_callers<X: Sent + Drop + Send, C: Callers<X>, R: Threads + Wait + Syn
     ensures worker_count_uncalled { IsErrOf result CallersRefused.WorkerCount → callers.new ≡ callers.old }
     ensures sender_count_uncalled { IsErrOf result CallersRefused.SenderCount → callers.new ≡ callers.old }
     ensures ran { IfOk result (RunsCallers X.gives (C.called callers.old callers.new) plan.now workers senders) }
+    ensures stands { IfOk result (λ run. StandsFor run.machine plan.now run.journal.items) }
 {
     let Some(_) = plan.intake() else {
         return Err(CallersRefused::NoIntake);

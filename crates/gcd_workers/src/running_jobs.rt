@@ -1,5 +1,6 @@
 // A run of a caller's own jobs with the outside in memory.
 ghost use Rattle.std.specs.Prelude.{◌≡◌, ◌<◌, ◌≤◌, Some, IfOk, length, map};
+ghost use Rattle.gcd_machine.specs.Stands.{StandsFor};
 ghost use Rattle.gcd_plan.specs.Limits.{max_workers};
 ghost use Rattle.gcd_plan.specs.Validity.{IsPlan};
 ghost use Rattle.gcd_workers.specs.JobsRuns.{RunsJobs};
@@ -50,7 +51,8 @@ pub fn run_by_team<J: Job + Drop + Send, R: Threads + Wait + Sync>(
     requires jobs { length jobs.items ≡ length plan.now.blocks }
     requires workers { (0 < workers) × (workers ≤ max_workers) }
     requires most { 0 < most }
-    ensures { IfOk result (RunsJobs J.gives most plan.now jobs.items workers) }
+    ensures ran { IfOk result (RunsJobs J.gives most plan.now jobs.items workers) }
+    ensures stands { IfOk result (λ run. StandsFor run.machine plan.now run.journal.items) }
 {
     let mut poller = SilentPoller::new();
     let (front, mut intake) = nobodys_front(alloc)?;

@@ -3,8 +3,8 @@ use Rattle.gcd_workers.specs.CalledRuns.{nothings}
 use Rattle.gcd_workers.proofs.Unhalted.{never_rises}
 use Rattle.gcd_workers.proofs.running_callers.run_by_callers.Goals as goal
 
-pub returns : goal.returns
-returns g c = record {
+pub returns-clause-ran : goal.returns-clause-ran
+returns-clause-ran g c = record {
   given = _;
   plan_is = refl;
   workers_is = refl;

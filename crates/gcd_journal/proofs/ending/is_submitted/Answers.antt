@@ -2,7 +2,7 @@ use Rattle.std.proofs.Common.{◌∙◌, ap, sym, is_some}
 use Rattle.gcd_history.specs.History.{is_submitted}
 use Rattle.gcd_machine.proofs.Views.Calls.{valid_stands}
 use Rattle.gcd_journal.proofs.ReportLines.{main_submitted, others_submitted}
-use Rattle.gcd_journal.proofs.report.is_submitted.Goals as goal
+use Rattle.gcd_journal.proofs.ending.is_submitted.Goals as goal
 
 pub returns-then-b-eq0 : goal.returns-then-b-eq0
 returns-then-b-eq0 c = λ plan h stands. sym (ap (is_submitted plan h) c.if-b-eq0.true ∙ main_submitted plan h)

@@ -1,7 +1,7 @@
 use Rattle.std.proofs.Common.{◌-◌, length, subst, sym}
 use Rattle.gcd_journal.specs.Spoken.{IsNamed}
 use Rattle.gcd_journal.proofs.ReportLines.{last_there}
-use Rattle.gcd_journal.proofs.report.push_last_misuse.Goals as goal
+use Rattle.gcd_journal.proofs.ending.push_last_misuse.Goals as goal
 
 pub push_misuse_line-requires : goal.push_misuse_line-requires
 push_misuse_line-requires c =
