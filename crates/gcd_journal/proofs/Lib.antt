@@ -5,6 +5,7 @@ pub mod LookUp
 pub mod Numbers
 pub mod Spelled
 pub mod SpelledBack
+pub mod Formed
 pub mod OneWay
 pub mod LawfulSpoken
 pub mod NextLines

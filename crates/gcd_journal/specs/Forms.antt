@@ -1,5 +1,5 @@
 -- Which fields an event's line has, and what is wrong with a line that spells no event.
-use Rattle.std.specs.Prelude.{ℕ, ◌+◌, ◌==◌, Bool, ◌||◌, if◌then◌else◌, List, [], ◌∷◌, Option, Some, None, length, codes}
+use Rattle.std.specs.Prelude.{ℕ, ◌+◌, ◌==◌, Bool, if◌then◌else◌, List, [], ◌∷◌, Option, Some, None, length, codes}
 use Rattle.std.specs.Option.{is_some}
 use Rattle.std.specs.Str.{bytes_eq}
 use Rattle.gcd_journal.specs.declared.cause.Field.{Field}
@@ -27,7 +27,7 @@ form_of word =
     if bytes_eq word (codes "misuse") then Some (Worker ∷ Run ∷ Index ∷ Code ∷ []) else None
 
 -- the text is such a field; `look` gives the run of a name
-unfoldable pub fits : Look → Field → List ℕ → Bool
+abbrev pub fits : Look → Field → List ℕ → Bool
 fits look Worker text = is_some (worker_in text)
 fits look Block text = is_some (block_in look text)
 fits look OtherBlock text = is_some (other_block_in look text)
@@ -40,16 +40,18 @@ fits look Bytes text = is_some (bytes_in text)
 fits look Code text = is_some (code_in text)
 
 -- the first of the texts that is not the field of its place, where the first text has this place in its line
-unfoldable pub misfit_from : Look → (place : ℕ) → List Field → List (List ℕ) → Option JournalCause
+abbrev pub misfit_from : Look → (place : ℕ) → List Field → List (List ℕ) → Option JournalCause
 misfit_from look place (field ∷ form) (text ∷ texts) =
     if fits look field text then misfit_from look (place + 1) form texts else Some (Misfit place field)
 misfit_from look place [] texts = None
 misfit_from look place (field ∷ form) [] = None
 
+-- what is wrong with the texts that follow the first word of a line, if this is the form of that word
+abbrev pub fault_by : Look → Option (List Field) → List (List ℕ) → Option JournalCause
+fault_by look None texts = Some NoForm
+fault_by look (Some form) texts = if length form == length texts then misfit_from look 2 form texts else Some NoForm
+
 -- what is wrong with a line of these fields; None: nothing, it spells an event
 unfoldable pub fault_in : Look → List (List ℕ) → Option JournalCause
 fault_in look [] = Some NoForm
-fault_in look (word ∷ texts) = elim (form_of word) [
-  | None ↦ Some NoForm
-  | Some form ↦ if length form == length texts then misfit_from look 2 form texts else Some NoForm
-]
+fault_in look (word ∷ texts) = fault_by look (form_of word) texts

@@ -136,6 +136,7 @@ fn run_in(names: &Names, field: &[u8]) -> Spelled<Run>
     }
 }
 
+#[tactic(auto, using(crate::proofs::Formed::one_unformed))]
 fn by_one(kind: &[u8]) -> Spelled<Event>
     ensures event { result_ok result ≡ by_one kind.now }
     ensures cause { IfErr result (λ why. (look : Look) → fault_in look (kind.now ∷ []) ≡ Some why) }
@@ -175,6 +176,7 @@ fn expire_in(names: &Names, a: &[u8]) -> Spelled<Event>
     Ok(Event::Expire { blk })
 }
 
+#[tactic(auto, using(crate::proofs::Formed::tick_unfit, crate::proofs::Formed::feed_end_unfit, crate::proofs::Formed::expire_unfit, crate::proofs::Formed::two_unformed))]
 fn by_two(names: &Names, kind: &[u8], a: &[u8]) -> Spelled<Event>
     ensures event { result_ok result ≡ by_two (look_of names.now.runs) kind.now a.now }
     ensures cause { IfErr result (λ why. fault_in (look_of names.now.runs) (kind.now ∷ a.now ∷ []) ≡ Some why) }
@@ -263,6 +265,7 @@ fn deliver_end_in(names: &Names, a: &[u8], b: &[u8]) -> Spelled<Event>
     Ok(Event::DeliverEnd { worker, src })
 }
 
+#[tactic(auto, using(crate::proofs::Formed::ready_unfit, crate::proofs::Formed::accept_unfit, crate::proofs::Formed::start_unfit, crate::proofs::Formed::end_unfit, crate::proofs::Formed::wake_unfit, crate::proofs::Formed::deliver_unfit, crate::proofs::Formed::deliver_end_unfit, crate::proofs::Formed::three_unformed))]
 fn by_three(names: &Names, kind: &[u8], a: &[u8], b: &[u8]) -> Spelled<Event>
     ensures event { result_ok result ≡ by_three (look_of names.now.runs) kind.now a.now b.now }
     ensures cause { IfErr result (λ why. fault_in (look_of names.now.runs) (kind.now ∷ a.now ∷ b.now ∷ []) ≡ Some why) }
@@ -296,6 +299,7 @@ fn act_in(names: &Names, a: &[u8], b: &[u8], c: &[u8]) -> Spelled<Event>
     Ok(Event::Act { worker, run, index })
 }
 
+#[tactic(auto, using(crate::proofs::Formed::act_unfit, crate::proofs::Formed::four_unformed))]
 fn by_four(names: &Names, kind: &[u8], a: &[u8], b: &[u8], c: &[u8]) -> Spelled<Event>
     ensures event { result_ok result ≡ by_four (look_of names.now.runs) kind.now a.now b.now c.now }
     ensures cause { IfErr result (λ why. fault_in (look_of names.now.runs) (kind.now ∷ a.now ∷ b.now ∷ c.now ∷ []) ≡ Some why) }
@@ -323,6 +327,7 @@ fn misuse_in(names: &Names, a: &[u8], b: &[u8], c: &[u8], d: &[u8]) -> Spelled<E
     })
 }
 
+#[tactic(auto, using(crate::proofs::Formed::misuse_unfit, crate::proofs::Formed::five_unformed))]
 fn by_five(names: &Names, kind: &[u8], a: &[u8], b: &[u8], c: &[u8], d: &[u8]) -> Spelled<Event>
     ensures event { result_ok result ≡ by_five (look_of names.now.runs) kind.now a.now b.now c.now d.now }
     ensures cause { IfErr result (λ why. fault_in (look_of names.now.runs) (kind.now ∷ a.now ∷ b.now ∷ c.now ∷ d.now ∷ []) ≡ Some why) }
