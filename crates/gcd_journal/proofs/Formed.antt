@@ -23,11 +23,10 @@ of_form look word name form texts (Err why) is has long wrong =
     rw (same, long) wrong
 
 -- a line of each word, whose texts do not fit its form
-pub tick_unfit : (look : Look) (word a : List ℕ) (r : Result Event JournalCause) → bytes_eq word (codes "tick") ≡ true → IfErr r (λ why. (l : Look) → misfit_from l 2 (Time ∷ []) (a ∷ []) ≡ Some why)
+pub tick_unfit : (look : Look) (word a : List ℕ) (r : Result Event JournalCause) → bytes_eq word (codes "tick") ≡ true → IfErr r (λ why. misfit_from look 2 (Time ∷ []) (a ∷ []) ≡ Some why)
     → IfErr r (λ why. fault_in look (word ∷ a ∷ []) ≡ Some why)
 unfolding form_of
-tick_unfit look word a (Ok e) is wrong = tt
-tick_unfit look word a (Err why) is wrong = of_form look word (codes "tick") (Time ∷ []) (a ∷ []) (Err {T = Event} why) is refl refl (wrong look)
+tick_unfit look word a r is wrong = of_form look word (codes "tick") (Time ∷ []) (a ∷ []) r is refl refl wrong
 
 pub feed_end_unfit : (look : Look) (word a : List ℕ) (r : Result Event JournalCause) → bytes_eq word (codes "feed_end") ≡ true → IfErr r (λ why. misfit_from look 2 (Source ∷ []) (a ∷ []) ≡ Some why)
     → IfErr r (λ why. fault_in look (word ∷ a ∷ []) ≡ Some why)

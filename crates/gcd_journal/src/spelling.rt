@@ -139,7 +139,7 @@ fn run_in(names: &Names, field: &[u8]) -> Spelled<Run>
 #[tactic(auto, using(crate::proofs::Formed::one_unformed))]
 fn by_one(kind: &[u8]) -> Spelled<Event>
     ensures event { result_ok result ≡ by_one kind.now }
-    ensures cause { IfErr result (λ why. (look : Look) → fault_in look (kind.now ∷ []) ≡ Some why) }
+    ensures cause { (look : Look) → IfErr result (λ why. fault_in look (kind.now ∷ []) ≡ Some why) }
 {
     if kind == b"halt".as_slice() {
         Ok(Event::Halt)
@@ -152,7 +152,7 @@ fn by_one(kind: &[u8]) -> Spelled<Event>
 
 fn tick_in(a: &[u8]) -> Spelled<Event>
     ensures event { result_ok result ≡ option_and_then (λ t. Some (Event.Tick t)) (time_in a.now) }
-    ensures cause { IfErr result (λ why. (look : Look) → misfit_from look 2 (Field.Time ∷ []) (a.now ∷ []) ≡ Some why) }
+    ensures cause { (look : Look) → IfErr result (λ why. misfit_from look 2 (Field.Time ∷ []) (a.now ∷ []) ≡ Some why) }
 {
     match number_in(a, 1, MAX_TIME) {
         Some(at) => Ok(Event::Tick { at }),
@@ -176,7 +176,7 @@ fn expire_in(names: &Names, a: &[u8]) -> Spelled<Event>
     Ok(Event::Expire { blk })
 }
 
-#[tactic(auto, using(crate::proofs::Formed::tick_unfit, crate::proofs::Formed::feed_end_unfit, crate::proofs::Formed::expire_unfit, crate::proofs::Formed::two_unformed))]
+#[tactic(auto, using(crate::proofs::Formed::feed_end_unfit, crate::proofs::Formed::expire_unfit, crate::proofs::Formed::two_unformed))]
 fn by_two(names: &Names, kind: &[u8], a: &[u8]) -> Spelled<Event>
     ensures event { result_ok result ≡ by_two (look_of names.now.runs) kind.now a.now }
     ensures cause { IfErr result (λ why. fault_in (look_of names.now.runs) (kind.now ∷ a.now ∷ []) ≡ Some why) }
@@ -265,7 +265,7 @@ fn deliver_end_in(names: &Names, a: &[u8], b: &[u8]) -> Spelled<Event>
     Ok(Event::DeliverEnd { worker, src })
 }
 
-#[tactic(auto, using(crate::proofs::Formed::ready_unfit, crate::proofs::Formed::accept_unfit, crate::proofs::Formed::start_unfit, crate::proofs::Formed::end_unfit, crate::proofs::Formed::wake_unfit, crate::proofs::Formed::deliver_unfit, crate::proofs::Formed::deliver_end_unfit, crate::proofs::Formed::three_unformed))]
+#[tactic(auto, using(crate::proofs::Formed::ready_unfit, crate::proofs::Formed::accept_unfit, crate::proofs::Formed::start_unfit, crate::proofs::Formed::end_unfit, crate::proofs::Formed::wake_unfit, crate::proofs::Formed::deliver_unfit))]
 fn by_three(names: &Names, kind: &[u8], a: &[u8], b: &[u8]) -> Spelled<Event>
     ensures event { result_ok result ≡ by_three (look_of names.now.runs) kind.now a.now b.now }
     ensures cause { IfErr result (λ why. fault_in (look_of names.now.runs) (kind.now ∷ a.now ∷ b.now ∷ []) ≡ Some why) }

@@ -11,7 +11,7 @@ returns-in-None-clause-event c = c.by_one.ensures.event ∙ ap (λ fields. event
 pub returns-in-None-clause-cause : goal.returns-in-None-clause-cause
 returns-in-None-clause-cause c =
     subst (λ fields. IfErr c.by_one.result (λ why. fault_in (look_of c.args.names.now.runs) fields ≡ Some why))
-    (sym (only_field c.args.line.now c.in-None.ensures.uncut)) c.by_one.ensures.cause
+    (sym (only_field c.args.line.now c.in-None.ensures.uncut)) (c.by_one.ensures.cause (look_of c.args.names.now.runs))
 
 pub returns-in-Some-clause-event : goal.returns-in-Some-clause-event
 returns-in-Some-clause-event c =
