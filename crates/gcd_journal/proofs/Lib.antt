@@ -7,6 +7,7 @@ pub mod Spelled
 pub mod SpelledBack
 pub mod Formed
 pub mod OneWay
+pub mod OneCause
 pub mod LawfulSpoken
 pub mod NextLines
 pub mod FirstBarred

@@ -183,6 +183,7 @@ module _ (most : ℕ) (plan : PlanView) (look : Look) (valid : IsPlan plan) (kno
 
   pub fault_is_caused : (text : List ℕ) (h : List Event) (rest : List ℕ) (line : ℕ) (cause : JournalCause) → HasRead most plan text h rest → IsFault most look rest (length h) cause
       → line ≡ length h + 1 → IsCausedBy most plan text line cause
+  unfolding fault_is_refused
   fault_is_caused text h rest line cause read fault is = record {
     refused = fault_is_refused text h rest line cause read fault is;
     why = cause_at rest cause fault.why;

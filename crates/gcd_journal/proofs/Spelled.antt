@@ -137,7 +137,7 @@ module _ (plan : PlanView) (look : Look) (known : (run : Run) → is_run_of plan
 
   -- and nothing is wrong with them
   pub faultless : (e : Event) → IsSpoken plan e → fault_in look (fields_of_event plan e) ≡ None
-  unfolding (fault_in, form_of)
+  unfolding fault_in form_of
   faultless (Start w b) spoken = rw (worker_read w spoken.fits.0, block_read b spoken.named) refl
   faultless (Acted w run i) spoken =
       rw (worker_read w spoken.fits.0, known run spoken.named, number_read 0 (max_acts - 1) i (omega arith) (let f = spoken.fits in omega arith) (omega arith)) refl
