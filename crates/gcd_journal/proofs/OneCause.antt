@@ -1,16 +1,15 @@
 -- A line at fault has one cause.
-use Rattle.std.proofs.Common.{◌≡◌, ℕ, ◌^◌, ◌<◌, List, [], ◌∷◌, ◌++◌, Option, Some, None, refl, ap, sym, ◌∙◌, subst}
+use Rattle.std.proofs.Common.{◌≡◌, ℕ, ◌^◌, ◌<◌, List, ◌∷◌, ◌++◌, Option, Some, None, refl, ap, sym, ◌∙◌, subst}
 use Rattle.std.proofs.Math.Path.{fun_ext}
 use Rattle.gcd_plan.specs.PlanView.{PlanView}
 use Rattle.gcd_plan.specs.Validity.{IsPlan}
 use Rattle.gcd_plan.specs.declared.numbers.Run.{Run}
 use Rattle.gcd_event.specs.declared.event.Event.{Event}
 use Rattle.gcd_history.specs.JournalText.{event_line}
-use Rattle.gcd_history.specs.Report.{name_of_run}
 use Rattle.gcd_text.specs.Fields.{IsWithout, fields_of}
 use Rattle.gcd_journal.specs.Causes.{IsCauseAt, IsCausedBy}
 use Rattle.gcd_journal.specs.Forms.{fault_in}
-use Rattle.gcd_journal.specs.Journals.{BeginsWith, IsRefusedAt}
+use Rattle.gcd_journal.specs.Journals.{BeginsWith}
 use Rattle.gcd_journal.specs.Named.{IsLookUp}
 use Rattle.gcd_journal.specs.Spelling.{Look}
 use Rattle.gcd_journal.specs.Spoken.{IsSpoken}

@@ -1,5 +1,5 @@
 -- What the checker says of events.
-use Rattle.std.specs.Prelude.{◌≡◌, ⊤, ℕ, List, Option, Some, None, slice_get, take, IsSome}
+use Rattle.std.specs.Prelude.{◌≡◌, ⊤, ℕ, List, Some, slice_get, take, IsSome}
 use Rattle.gcd_plan.specs.PlanView.{PlanView}
 use Rattle.gcd_event.specs.declared.event.Event.{Event}
 use Rattle.gcd_history.specs.declared.state.State.{State}
