@@ -4,7 +4,7 @@ ghost use Rattle.std.specs.Result.{result_ok};
 ghost use Rattle.gcd_journal.specs.Named.{look_of};
 ghost use Rattle.gcd_text.specs.Fields.{fields_of};
 ghost use Rattle.gcd_journal.specs.Forms.{misfit_from, fault_in};
-ghost use Rattle.gcd_journal.specs.Spelling.{Look, number_in, worker_in, index_in, sender_in, time_in, bytes_in, code_in, block_in, other_block_in, source_in, of_both, turn_in, place_in, misuse_in, by_one, by_two, by_three, by_four, by_five, event_in};
+ghost use Rattle.gcd_journal.specs.Spelling.{Look, number_in, worker_in, index_in, sender_in, time_in, bytes_in, code_in, block_in, other_block_in, source_in, of_both, turn_in, misuse_in, by_one, by_two, by_three, by_four, by_five, event_in};
 
 use crate::cause::{Field, JournalCause};
 use crate::names::Names;
@@ -339,7 +339,7 @@ fn by_five(names: &Names, kind: &[u8], a: &[u8], b: &[u8], c: &[u8], d: &[u8]) -
     }
 }
 
-/// The event that the line spells, without its end; an `Err` exactly where it spells none.
+/// The event that the line spells, without its end; an `Err` exactly if it spells none, with what is wrong with it.
 pub fn event_in(names: &Names, line: &[u8]) -> Spelled<Event>
     ensures event { result_ok result ≡ event_in (look_of names.now.runs) (fields_of line.now) }
     ensures cause { IfErr result (λ why. fault_in (look_of names.now.runs) (fields_of line.now) ≡ Some why) }
