@@ -6,7 +6,8 @@ use Rattle.gcd_event.specs.declared.event.Event.{Event}
 use Rattle.gcd_history.specs.Ends.{HasState}
 use Rattle.gcd_history.specs.History.{IsLawful}
 use Rattle.gcd_history.specs.declared.state.State.{State}
-use Rattle.gcd_journal.specs.Journals.{IsJournal, IsRefusedAt}
+use Rattle.gcd_journal.specs.Causes.{IsCausedBy}
+use Rattle.gcd_journal.specs.Journals.{IsJournal}
 use Rattle.gcd_journal.specs.Judged.{IsFirstBarred}
 use Rattle.gcd_journal.specs.declared.cause.JournalCause.{JournalCause}
 use Rattle.gcd_journal.specs.declared.cause.JournalCause.TheVariants.{TooLong}
@@ -26,11 +27,11 @@ pub record IsJournalAt (shelf : Seen ShelfState) (name : Bytes) (plan : PlanView
 abbrev pub long_journal : Stop
 long_journal = Journal 0 TooLong
 
--- why no journal was read: its text was not loaded, or it is none
+-- why no journal was read: its text was not loaded; or it is none, and the stop has its first line at fault with the cause of that line
 pub data StopsJournal (shelf : Seen ShelfState) (name : Bytes) (plan : PlanView) (stop : Stop) : Type 0 where
   unloaded : StopsLoad shelf name max_file_bytes 0 long_journal stop → StopsJournal shelf name plan stop
   refused : (text : Bytes) (line : ℕ) (cause : JournalCause) → IsLoaded shelf name max_file_bytes text
-      → IsRefusedAt max_events plan text line → stop ≡ Journal line cause → StopsJournal shelf name plan stop
+      → IsCausedBy max_events plan text line cause → stop ≡ Journal line cause → StopsJournal shelf name plan stop
   wanting : stop ≡ Memory → StopsJournal shelf name plan stop
 
 -- what is told of events: they are lawful, or one of them is the first that is not permitted

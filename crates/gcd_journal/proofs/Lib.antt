@@ -5,7 +5,9 @@ pub mod LookUp
 pub mod Numbers
 pub mod Spelled
 pub mod SpelledBack
+pub mod Formed
 pub mod OneWay
+pub mod OneCause
 pub mod LawfulSpoken
 pub mod NextLines
 pub mod FirstBarred

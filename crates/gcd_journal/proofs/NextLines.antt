@@ -12,10 +12,14 @@ use Rattle.gcd_event.specs.declared.event.Event.{Event}
 use Rattle.gcd_event.specs.Fits.{IsFitting}
 use Rattle.gcd_history.specs.JournalText.{event_line, count_line, journal_text}
 use Rattle.gcd_text.specs.Fields.{IsWithout, fields_of}
+use Rattle.gcd_journal.specs.declared.cause.JournalCause.{JournalCause}
+use Rattle.gcd_journal.specs.declared.cause.JournalCause.TheVariants.{NoEnd, TooMany}
 use Rattle.gcd_journal.specs.Spoken.{IsSpoken, AreSpoken}
 use Rattle.gcd_journal.specs.Journals.{BeginsWith, IsJournal, IsRefusedAt}
+use Rattle.gcd_journal.specs.Causes.{IsCauseAt, IsCausedBy}
+use Rattle.gcd_journal.specs.Forms.{fault_in}
 use Rattle.gcd_journal.specs.Named.{IsLookUp}
-use Rattle.gcd_journal.specs.NextLine.{LineSpells, IsFault}
+use Rattle.gcd_journal.specs.NextLine.{LineSpells, IsReason, IsFault}
 use Rattle.gcd_journal.specs.Spelling.{Look, event_in}
 use Rattle.gcd_journal.proofs.Cuts.{is_line, without_line, no_line, cut_one_way, joined_line, fields_joined}
 use Rattle.gcd_journal.proofs.Spelled.{text_of, spells}
@@ -33,10 +37,11 @@ alone (c ∷ text) line zero within = eqb-false c 10 (not-true (c == 10) (and_pa
 alone (c ∷ text) line (suc i) within = alone text (and_parts (not (c == 10)) (is_line text) line).1 i (omega arith)
 
 -- a text without an end of a line
-pub endless : (most : ℕ) (look : Look) (text : List ℕ) (count : ℕ) → IsWithout 10 text → IsFault most look text count
+pub endless : (most : ℕ) (look : Look) (text : List ℕ) (count : ℕ) → IsWithout 10 text → IsFault most look text count NoEnd
 endless most look text count without = record {
   no_event = λ rest e spells. absurd (no_line text spells.line rest without spells.cut);
   no_count = λ begins. no_line text (count_text count) begins.rest without (begins.whole ∙ count_cut count begins.rest);
+  why = IsReason.endless without refl;
 }
 
 module _ (most : ℕ) (look : Look) (line rest : List ℕ) (count : ℕ) (without : IsWithout 10 line) (few : count < 2 ^ 64) where
@@ -54,23 +59,26 @@ module _ (most : ℕ) (look : Look) (line rest : List ℕ) (count : ℕ) (withou
   pub spoken_line : (e : Event) → Some e ≡ event_in look (fields_of line) → LineSpells look (line ++ 10 ∷ rest) rest e
   spoken_line e at = record { line = line; cut = refl; alone = without; spells = sym at }
 
-  pub one_too_many : (e : Event) → Some e ≡ event_in look (fields_of line) → most ≤ count → IsFault most look (line ++ 10 ∷ rest) count
+  pub one_too_many : (e : Event) → Some e ≡ event_in look (fields_of line) → most ≤ count → IsFault most look (line ++ 10 ∷ rest) count TooMany
   one_too_many e at full = record {
     no_event = λ r f spells. full;
     no_count = λ begins. let none = count_apart (count_line_is begins) in cc;
+    why = IsReason.full rest e (spoken_line e at) refl;
   }
 
   pub counted_line : line ≡ codes "events " ++ decimal count → BeginsWith (line ++ 10 ∷ rest) (count_line count)
   counted_line same = record { rest = rest; whole = ap (λ l. l ++ 10 ∷ rest) same ∙ sym (count_cut count rest) }
 
-  pub no_form : None ≡ event_in look (fields_of line) → line ≢ codes "events " ++ decimal count → IsFault most look (line ++ 10 ∷ rest) count
-  no_form none other = record {
+  pub odd_line : (cause : JournalCause) → None ≡ event_in look (fields_of line) → fault_in look (fields_of line) ≡ Some cause → line ≢ codes "events " ++ decimal count
+      → IsFault most look (line ++ 10 ∷ rest) count cause
+  odd_line cause none wrong other = record {
     no_event = λ r f spells.
         let same = (cut_one_way line spells.line rest r own_line (without_line spells.line spells.alone) spells.cut).0 in
         let both : event_in look (fields_of line) ≡ Some f = ap (λ l. event_in look (fields_of l)) same ∙ spells.spells in
         let never : None ≡ Some f = none ∙ both in
         cc;
     no_count = λ begins. other (count_line_is begins);
+    why = IsReason.odd line rest refl without wrong;
   }
 
 -- ## The events of a text
@@ -109,11 +117,16 @@ module _ (most : ℕ) (plan : PlanView) (look : Look) (valid : IsPlan plan) (kno
   pub spelled_fits : (rest more : List ℕ) (e : Event) → LineSpells look rest more e → IsFitting e
   spelled_fits rest more e line = (line_is_its line.line e line.spells).0.fits
 
+  -- and its text begins with the event's line
+  line_begins : (rest more : List ℕ) (e : Event) → LineSpells look rest more e → rest ≡ event_line plan e ++ more
+  line_begins rest more e line =
+      line.cut ∙ ap (λ l. l ++ 10 ∷ more) (sym (line_is_its line.line e line.spells).1) ∙ sym (line_and_rest plan valid e more)
+
   pub one_more_read : (text : List ℕ) (h : List Event) (rest more : List ℕ) (e : Event) → HasRead most plan text h rest → LineSpells look rest more e → length h < most
       → HasRead most plan text (h ++ e ∷ []) more
   one_more_read text h rest more e read line room =
       let its = line_is_its line.line e line.spells in
-      let cut : rest ≡ event_line plan e ++ more = line.cut ∙ ap (λ l. l ++ 10 ∷ more) (sym its.1) ∙ sym (line_and_rest plan valid e more) in
+      let cut = line_begins rest more e line in
       let pushed : flat_map (event_line plan) (h ++ e ∷ []) ≡ flat_map (event_line plan) h ++ event_line plan e =
       flat_map-append (event_line plan) h (e ∷ []) ∙ ap (λ l. flat_map (event_line plan) h ++ l) (append-nil (event_line plan e)) in
       record {
@@ -146,8 +159,9 @@ module _ (most : ℕ) (plan : PlanView) (look : Look) (valid : IsPlan plan) (kno
     spells = ap (event_in look) (read_text plan valid e spoken) ∙ spells plan look knows.known e spoken;
   }
 
-  pub fault_is_refused : (text : List ℕ) (h : List Event) (rest : List ℕ) (line : ℕ) → HasRead most plan text h rest → IsFault most look rest (length h) → line ≡ length h + 1 → IsRefusedAt most plan text line
-  fault_is_refused text h rest line read fault is = record {
+  pub fault_is_refused : (text : List ℕ) (h : List Event) (rest : List ℕ) (line : ℕ) (cause : JournalCause) → HasRead most plan text h rest → IsFault most look rest (length h) cause
+      → line ≡ length h + 1 → IsRefusedAt most plan text line
+  fault_is_refused text h rest line cause read fault is = record {
     events = h;
     rest = rest;
     front = read.front;
@@ -159,4 +173,18 @@ module _ (most : ℕ) (plan : PlanView) (look : Look) (valid : IsPlan plan) (kno
         let few = read.few in
         omega arith;
     no_count = fault.no_count;
+  }
+
+  cause_at : (rest : List ℕ) (cause : JournalCause) → IsReason look rest cause → IsCauseAt plan rest cause
+  cause_at rest cause (IsReason.endless without is) = IsCauseAt.endless without is
+  cause_at rest cause (IsReason.full more e line is) =
+      IsCauseAt.full e (line_is_its line.line e line.spells).0 (record { rest = more; whole = line_begins rest more e line }) is
+  cause_at rest cause (IsReason.odd line more cut without wrong) = IsCauseAt.odd line more look cut without knows wrong
+
+  pub fault_is_caused : (text : List ℕ) (h : List Event) (rest : List ℕ) (line : ℕ) (cause : JournalCause) → HasRead most plan text h rest → IsFault most look rest (length h) cause
+      → line ≡ length h + 1 → IsCausedBy most plan text line cause
+  unfolding fault_is_refused
+  fault_is_caused text h rest line cause read fault is = record {
+    refused = fault_is_refused text h rest line cause read fault is;
+    why = cause_at rest cause fault.why;
   }

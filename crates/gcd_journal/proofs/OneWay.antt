@@ -126,8 +126,8 @@ module _ (plan : PlanView) (valid : IsPlan plan) where
   one_fault : (most : ℕ) → most < 2 ^ 64 → (done : ℕ) (h k : List Event) (x y : List ℕ) → AreSpoken plan h → AreSpoken plan k → done + length h ≤ most → done + length k ≤ most
       → ((e : Event) → IsSpoken plan e → BeginsWith x (event_line plan e) → done + length h ≡ most)
       → ((e : Event) → IsSpoken plan e → BeginsWith y (event_line plan e) → done + length k ≡ most)
-      → flat_map (event_line plan) h ++ x ≡ flat_map (event_line plan) k ++ y → length h ≡ length k
-  one_fault most small done [] [] x y p q few short one other same = refl
+      → flat_map (event_line plan) h ++ x ≡ flat_map (event_line plan) k ++ y → (length h ≡ length k) × (x ≡ y)
+  one_fault most small done [] [] x y p q few short one other same = (refl, same)
   one_fault most small done [] (f ∷ k) x y p q few short one other same =
       let full = one f (first f k q) (record { rest = flat_map (event_line plan) k ++ y; whole = same ∙ front f k y }) in
       absurd (omega arith)
@@ -138,8 +138,9 @@ module _ (plan : PlanView) (valid : IsPlan plan) where
       let heads = same_line e f _ _ (first e h p) (first f k q) (sym (front e h x) ∙ same ∙ front f k y) in
       let more_h : (done + 1) + length h ≡ done + length (e ∷ h) = omega arith in
       let more_k : (done + 1) + length k ≡ done + length (f ∷ k) = omega arith in
-      ap suc (one_fault most small (done + 1) h k x y (later e h p) (later f k q) (omega arith) (omega arith)
-      (λ g spoken begins. more_h ∙ one g spoken begins) (λ g spoken begins. more_k ∙ other g spoken begins) heads.1)
+      let rest = one_fault most small (done + 1) h k x y (later e h p) (later f k q) (omega arith) (omega arith)
+      (λ g spoken begins. more_h ∙ one g spoken begins) (λ g spoken begins. more_k ∙ other g spoken begins) heads.1 in
+      (ap suc rest.0, rest.1)
 
   -- the text of a journal, with what follows it
   whole : (most : ℕ) (text : List ℕ) (h : List Event) (journal : IsJournal most plan text h) → text ≡ flat_map (event_line plan) h ++ (count_line (length h) ++ journal.begins.rest)
@@ -160,8 +161,9 @@ module _ (plan : PlanView) (valid : IsPlan plan) where
       (λ begins. refused.no_count (subst (λ m. BeginsWith refused.rest (count_line m)) e begins))
       (sym (whole most text h journal) ∙ refused.front)
 
-  pub faults_agree : (most : ℕ) → most < 2 ^ 64 → (text : List ℕ) (a b : ℕ) → IsRefusedAt most plan text a → IsRefusedAt most plan text b → a ≡ b
-  faults_agree most small text a b one other =
+  -- two faults of a text are one, and what is left of the text there is the same
+  pub one_place : (most : ℕ) → most < 2 ^ 64 → (text : List ℕ) (a b : ℕ) (one : IsRefusedAt most plan text a) (other : IsRefusedAt most plan text b) → (a ≡ b) × (one.rest ≡ other.rest)
+  one_place most small text a b one other =
       let e : 0 + length one.events ≡ length one.events = omega arith in
       let f : 0 + length other.events ≡ length other.events = omega arith in
       let few = one.few in
@@ -170,4 +172,7 @@ module _ (plan : PlanView) (valid : IsPlan plan) where
       let at = other.line_is in
       let same = one_fault most small 0 one.events other.events one.rest other.rest one.spoken other.spoken (omega arith) (omega arith)
       (λ g spoken begins. e ∙ one.no_event g spoken begins) (λ g spoken begins. f ∙ other.no_event g spoken begins) (sym one.front ∙ other.front) in
-      omega arith
+      (omega (arith, same.0), same.1)
+
+  pub faults_agree : (most : ℕ) → most < 2 ^ 64 → (text : List ℕ) (a b : ℕ) → IsRefusedAt most plan text a → IsRefusedAt most plan text b → a ≡ b
+  faults_agree most small text a b one other = (one_place most small text a b one other).0

@@ -16,6 +16,7 @@ use Rattle.gcd_history.specs.Permitted.{is_run_of}
 use Rattle.gcd_history.specs.Report.{name_of_run}
 use Rattle.gcd_history.specs.JournalText.{event_line}
 use Rattle.gcd_journal.specs.Spoken.{IsSpoken}
+use Rattle.gcd_journal.specs.Forms.{form_of, fault_in}
 use Rattle.gcd_journal.specs.Spelling.{Look, number_in, worker_in, event_in}
 use Rattle.gcd_text.specs.Fields.{fields_of}
 use Rattle.gcd_journal.proofs.Cuts.{is_plain, some_field}
@@ -133,6 +134,28 @@ module _ (plan : PlanView) (look : Look) (known : (run : Run) → is_run_of plan
       let other : (b.0 == 0) ≡ false = ne_eqb b.0 0 (λ main. let f = spoken.fits in omega arith) in
       rw (block_read b spoken.named, other, number_read 0 (max_senders - 1) s (omega arith) (let f = spoken.fits in omega arith) (omega arith)) refl
   spells Shut spoken = refl
+
+  -- and nothing is wrong with them
+  pub faultless : (e : Event) → IsSpoken plan e → fault_in look (fields_of_event plan e) ≡ None
+  unfolding fault_in form_of
+  faultless (Start w b) spoken = rw (worker_read w spoken.fits.0, block_read b spoken.named) refl
+  faultless (Acted w run i) spoken =
+      rw (worker_read w spoken.fits.0, known run spoken.named, number_read 0 (max_acts - 1) i (omega arith) (let f = spoken.fits in omega arith) (omega arith)) refl
+  faultless (Wake w b) spoken = rw (worker_read w spoken.fits.0, block_read b spoken.named) refl
+  faultless (End w b) spoken = rw (worker_read w spoken.fits.0, block_read b spoken.named) refl
+  faultless (Deliver w s) spoken = rw (worker_read w spoken.fits.0, source_read s spoken.named) refl
+  faultless (DeliverEnd w s) spoken = rw (worker_read w spoken.fits.0, source_read s spoken.named) refl
+  faultless (Tick t) spoken = rw (number_read 1 max_time t spoken.fits.0 spoken.fits.1 (omega arith)) refl
+  faultless (Ready s n) spoken = rw (source_read s spoken.named, number_read 1 max_value n spoken.fits.1 spoken.fits.2 (omega arith)) refl
+  faultless (FeedEnd s) spoken = rw (source_read s spoken.named) refl
+  faultless (Misuse w c run i) spoken =
+      rw (worker_read w spoken.fits.0, known run spoken.named, number_read 0 (max_acts - 1) i (omega arith) (let f = spoken.fits in omega arith) (omega arith), number_read 1 8 c spoken.fits.3 spoken.fits.4 (omega arith)) refl
+  faultless Halt spoken = refl
+  faultless (Expire b) spoken = rw (block_read b spoken.named) refl
+  faultless (Accept b s) spoken =
+      let other : (b.0 == 0) ≡ false = ne_eqb b.0 0 (λ main. let f = spoken.fits in omega arith) in
+      rw (block_read b spoken.named, other, number_read 0 (max_senders - 1) s (omega arith) (let f = spoken.fits in omega arith) (omega arith)) refl
+  faultless Shut spoken = refl
 
 -- six fields and more spell nothing
 pub six_spell_nothing : (look : Look) (kind a b c d rest : List ℕ) → event_in look (kind ∷ a ∷ b ∷ c ∷ d ∷ fields_of rest) ≡ None

@@ -17,7 +17,7 @@ use Rattle.gcd_history.specs.Permitted.{is_run_of}
 use Rattle.gcd_history.specs.Report.{name_of_run}
 use Rattle.gcd_history.proofs.Permitted.Fitting.{run_fits}
 use Rattle.gcd_journal.specs.Spoken.{IsSpoken}
-use Rattle.gcd_journal.specs.Spelling.{Look, number_in, worker_in, index_in, sender_in, time_in, bytes_in, code_in, block_of_run, block_in, other_block_of_run, other_block_in, source_of_run, source_in, of_both, block_event, source_event, turn_event, turn_in, by_one, by_two, by_three, by_four, by_five, event_in}
+use Rattle.gcd_journal.specs.Spelling.{Look, number_in, worker_in, index_in, sender_in, time_in, bytes_in, code_in, block_of_run, block_in, other_block_of_run, other_block_in, source_of_run, source_in, of_both, worker_event, turn_in, by_one, by_two, by_three, by_four, by_five, event_in}
 use Rattle.gcd_journal.proofs.Numbers.{read_back}
 use Rattle.gcd_journal.proofs.Spelled.{fields_of_event}
 
@@ -138,49 +138,44 @@ module _ (plan : PlanView) (look : Look) (valid : IsPlan plan) (sound : (name : 
   three_fields : (k1 k2 a1 a2 b1 b2 : List ℕ) → k1 ≡ k2 → a1 ≡ a2 → b1 ≡ b2 → (k1 ∷ a1 ∷ b1 ∷ []) ≡ (k2 ∷ a2 ∷ b2 ∷ [])
   three_fields k1 k2 a1 a2 b1 b2 k a b = cc
 
-  -- what a turn of a worker and a run spells
-  abbrev TurnSpells : (kind a b : List ℕ) (w : ℕ) (run : Run) → Event → Type 0
-  TurnSpells kind a b w run e = a ≡ decimal w → w < max_workers → is_run_of plan run ≡ true → name_of_run plan run ≡ b → Spells plan e (kind ∷ a ∷ b ∷ [])
+  -- what a worker's line of a block spells, and of a source
+  block_back : (make : ℕ → Blk → Event) (word kind a b : List ℕ) (e : Event) → ((w : ℕ) (c : Blk) → w < max_workers → is_run_of plan (Block c) ≡ true → IsSpoken plan (make w c))
+      → ((w : ℕ) (c : Blk) → fields_of_event plan (make w c) ≡ word ∷ decimal w ∷ name_of_blk plan c.0 ∷ [])
+      → bytes_eq kind word ≡ true → of_both make (worker_in a) (block_in look b) ≡ Some e → Spells plan e (kind ∷ a ∷ b ∷ [])
+  block_back make word kind a b e spoken fields is h =
+      let parts = both_there make (worker_in a) (block_in look b) e h in
+      let worker = is_worker a parts.0 parts.2 in
+      let named = sound b (Block parts.1) (is_block_name (look b) parts.1 parts.3) in
+      subst (λ f. Spells plan f (kind ∷ a ∷ b ∷ [])) parts.4
+      (spoken parts.0 parts.1 worker.1 named.0, fields parts.0 parts.1 ∙ three_fields _ _ _ _ _ _ (same_text kind word is) (sym worker.0) named.1)
 
-  block_back : (kind a b : List ℕ) (w : ℕ) (c : Blk) (e : Event) → block_event kind w c ≡ Some e → TurnSpells kind a b w (Block c) e
-  block_back kind a b w c e h at few has named = elim (guarded (bytes_eq kind (codes "start")) _ _ e h) [
-    | inl is ↦
-        let same : Start w c ≡ e = let made = is.1 in cc in
-        subst (λ f. Spells plan f (kind ∷ a ∷ b ∷ [])) same
-        (record { fits = (few, run_fits plan (Block c) valid has); named = has }, three_fields _ _ _ _ _ _ (same_text kind (codes "start") is.0) (sym at) named)
-    | inr other ↦ elim (guarded (bytes_eq kind (codes "end")) _ _ e other.1) [
-      | inl is ↦
-          let same : End w c ≡ e = let made = is.1 in cc in
-          subst (λ f. Spells plan f (kind ∷ a ∷ b ∷ [])) same
-          (record { fits = (few, run_fits plan (Block c) valid has); named = has }, three_fields _ _ _ _ _ _ (same_text kind (codes "end") is.0) (sym at) named)
-      | inr more ↦ elim (guarded (bytes_eq kind (codes "wake")) _ None e more.1) [
-        | inl is ↦
-            let same : Wake w c ≡ e = let made = is.1 in cc in
-            subst (λ f. Spells plan f (kind ∷ a ∷ b ∷ [])) same
-            (record { fits = (few, run_fits plan (Block c) valid has); named = has }, three_fields _ _ _ _ _ _ (same_text kind (codes "wake") is.0) (sym at) named)
-        | inr none ↦ let never = none.1 in cc
+  source_back : (make : ℕ → Obj → Event) (word kind a b : List ℕ) (e : Event) → ((w : ℕ) (s : Obj) → w < max_workers → is_run_of plan (Source s) ≡ true → IsSpoken plan (make w s))
+      → ((w : ℕ) (s : Obj) → fields_of_event plan (make w s) ≡ word ∷ decimal w ∷ name_of_obj plan s.0 ∷ [])
+      → bytes_eq kind word ≡ true → of_both make (worker_in a) (source_in look b) ≡ Some e → Spells plan e (kind ∷ a ∷ b ∷ [])
+  source_back make word kind a b e spoken fields is h =
+      let parts = both_there make (worker_in a) (source_in look b) e h in
+      let worker = is_worker a parts.0 parts.2 in
+      let named = sound b (Source parts.1) (is_source_name (look b) parts.1 parts.3) in
+      subst (λ f. Spells plan f (kind ∷ a ∷ b ∷ [])) parts.4
+      (spoken parts.0 parts.1 worker.1 named.0, fields parts.0 parts.1 ∙ three_fields _ _ _ _ _ _ (same_text kind word is) (sym worker.0) named.1)
+
+  worker_back : (kind a b : List ℕ) (e : Event) → worker_event look kind a b ≡ Some e → Spells plan e (kind ∷ a ∷ b ∷ [])
+  worker_back kind a b e h = elim (guarded (bytes_eq kind (codes "start")) _ _ e h) [
+    | inl is ↦ block_back (λ w x. Start w x) (codes "start") kind a b e (λ w x few has. record { fits = (few, run_fits plan (Block x) valid has); named = has }) (λ w x. refl) is.0 is.1
+    | inr n0 ↦ elim (guarded (bytes_eq kind (codes "end")) _ _ e n0.1) [
+      | inl is ↦ block_back (λ w x. End w x) (codes "end") kind a b e (λ w x few has. record { fits = (few, run_fits plan (Block x) valid has); named = has }) (λ w x. refl) is.0 is.1
+      | inr n1 ↦ elim (guarded (bytes_eq kind (codes "wake")) _ _ e n1.1) [
+        | inl is ↦ block_back (λ w x. Wake w x) (codes "wake") kind a b e (λ w x few has. record { fits = (few, run_fits plan (Block x) valid has); named = has }) (λ w x. refl) is.0 is.1
+        | inr n2 ↦ elim (guarded (bytes_eq kind (codes "deliver")) _ _ e n2.1) [
+          | inl is ↦ source_back (λ w x. Deliver w x) (codes "deliver") kind a b e (λ w x few has. record { fits = (few, run_fits plan (Source x) valid has); named = has }) (λ w x. refl) is.0 is.1
+          | inr n3 ↦ elim (guarded (bytes_eq kind (codes "deliver_end")) _ None e n3.1) [
+            | inl is ↦ source_back (λ w x. DeliverEnd w x) (codes "deliver_end") kind a b e (λ w x few has. record { fits = (few, run_fits plan (Source x) valid has); named = has }) (λ w x. refl) is.0 is.1
+            | inr none ↦ let never = none.1 in cc
+          ]
+        ]
       ]
     ]
   ]
-
-  source_back : (kind a b : List ℕ) (w : ℕ) (s : Obj) (e : Event) → source_event kind w s ≡ Some e → TurnSpells kind a b w (Source s) e
-  source_back kind a b w s e h at few has named = elim (guarded (bytes_eq kind (codes "deliver")) _ _ e h) [
-    | inl is ↦
-        let same : Deliver w s ≡ e = let made = is.1 in cc in
-        subst (λ f. Spells plan f (kind ∷ a ∷ b ∷ [])) same
-        (record { fits = (few, run_fits plan (Source s) valid has); named = has }, three_fields _ _ _ _ _ _ (same_text kind (codes "deliver") is.0) (sym at) named)
-    | inr other ↦ elim (guarded (bytes_eq kind (codes "deliver_end")) _ None e other.1) [
-      | inl is ↦
-          let same : DeliverEnd w s ≡ e = let made = is.1 in cc in
-          subst (λ f. Spells plan f (kind ∷ a ∷ b ∷ [])) same
-          (record { fits = (few, run_fits plan (Source s) valid has); named = has }, three_fields _ _ _ _ _ _ (same_text kind (codes "deliver_end") is.0) (sym at) named)
-      | inr none ↦ let never = none.1 in cc
-    ]
-  ]
-
-  turn_back : (kind a b : List ℕ) (w : ℕ) (run : Run) (e : Event) → turn_event kind w run ≡ Some e → TurnSpells kind a b w run e
-  turn_back kind a b w (Block c) e h = block_back kind a b w c e h
-  turn_back kind a b w (Source s) e h = source_back kind a b w s e h
 
   three_back : (kind a b : List ℕ) (e : Event) → by_three look kind a b ≡ Some e → Spells plan e (kind ∷ a ∷ b ∷ [])
   three_back kind a b e h = elim (guarded (bytes_eq kind (codes "ready")) _ _ e h) [
@@ -198,10 +193,7 @@ module _ (plan : PlanView) (look : Look) (valid : IsPlan plan) (sound : (name : 
           let sender = is_sender b parts.1 parts.3 in
           subst (λ f. Spells plan f (kind ∷ a ∷ b ∷ [])) parts.4
           (record { fits = (block.1, run_fits plan (Block parts.0) valid named.0, sender.1); named = named.0 }, three_fields _ _ _ _ _ _ (same_text kind (codes "accept") is.0) named.1 (sym sender.0))
-      | inr more ↦
-          let parts = then_there (λ (turn : ℕ × Run). turn_event kind turn.0 turn.1) (turn_in look a b) e more.1 in
-          let turn = run_turn a b parts.0 parts.1 in
-          turn_back kind a b parts.0.0 parts.0.1 e parts.2 turn.0 turn.1 turn.2 turn.3
+      | inr more ↦ worker_back kind a b e more.1
     ]
   ]
 

@@ -3,7 +3,9 @@ pub mod Spoken
 pub mod Journals
 pub mod Judged
 pub mod Spelling
+pub mod Forms
 pub mod Named
+pub mod Causes
 pub mod NextLine
 pub mod Totals
 pub mod Taken

@@ -5,6 +5,8 @@ ghost use Rattle.gcd_plan.specs.Validity.{IsPlan};
 ghost use Rattle.gcd_event.specs.declared.event.Event.{Event};
 ghost use Rattle.gcd_history.specs.History.{IsLawful};
 ghost use Rattle.gcd_history.specs.JournalText.{journal_text};
+ghost use Rattle.gcd_journal.specs.Causes.{IsCausedBy};
+ghost use Rattle.gcd_journal.specs.declared.cause.JournalCause.{JournalCause};
 ghost use Rattle.gcd_journal.specs.Spoken.{AreSpoken};
 ghost use Rattle.gcd_journal.specs.Journals.{IsJournal, IsRefusedAt};
 ghost use Rattle.gcd_journal.specs.Judged.{IsFirstBarred};
@@ -18,6 +20,12 @@ pub fn journals_are_read_one_way()
         → IsRefusedAt most plan text line → ⊥ }
     ensures line { (most : ℕ) (plan : PlanView) (text : List ℕ) (a b : ℕ) → most < 2 ^ 64 → IsPlan plan → IsRefusedAt most plan text a → IsRefusedAt most plan text b
         → a ≡ b }
+{}
+
+/// Where a journal may have `most` events, of whatever number below 2 ^ 64, a text's first line at fault has one cause.
+pub fn refused_lines_have_one_cause()
+    ensures { (most : ℕ) (plan : PlanView) (text : List ℕ) (a b : ℕ) (c d : JournalCause) → most < 2 ^ 64 → IsPlan plan → IsCausedBy most plan text a c
+        → IsCausedBy most plan text b d → c ≡ d }
 {}
 
 /// What is written of events that have lines is a journal of them, whatever follows it.

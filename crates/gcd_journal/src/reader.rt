@@ -3,6 +3,7 @@ ghost use Rattle.std.specs.Prelude.{◌≡◌, ◌≢◌, ◌∷◌, ◌++◌, [
 ghost use Rattle.std.specs.Fmt.{decimal};
 ghost use Rattle.gcd_event.specs.Fits.{IsFitting};
 ghost use Rattle.gcd_text.specs.Fields.{IsWithout};
+ghost use Rattle.gcd_journal.specs.Causes.{IsCaused};
 ghost use Rattle.gcd_journal.specs.Journals.{IsJournal, IsNear, IsRefusal};
 ghost use Rattle.gcd_journal.specs.Named.{look_of};
 ghost use Rattle.gcd_journal.specs.NextLine.{IsNext};
@@ -111,7 +112,8 @@ fn add(events: &mut Vec<Entry>, e: Event) -> Result<(), AllocError>
 
 /// The events of a journal of the plan, at most `most`: those of the text's front up to its line `events N`, after which nothing is read.
 /// `Refused` names exactly the first line at fault: one that is no event's line with fitting fields and names of the plan, a
-/// line `events N` with another number, an event more than `most`, a line that lacks its end, or the line after the last.
+/// line `events N` with another number, an event more than `most`, a line that lacks its end, or the line after the last. Its cause is
+/// that line's.
 /// The line is at most one past the text's bytes. `Memory` comes only where memory runs out. A name costs one look-up.
 pub fn read_journal(
     alloc: Global,
@@ -121,6 +123,7 @@ pub fn read_journal(
 ) -> Result<Vec<Entry>, JournalFault>
     ensures journal { IfOk result (λ events. IsJournal most plan.now bytes.now events.items) }
     ensures fault { IfErr result (IsRefusal most plan.now bytes.now) }
+    ensures cause { IfErr result (IsCaused most plan.now bytes.now) }
     ensures near { IfErr result (IsNear bytes.now) }
 {
     let names = Names::new(alloc, plan)?;

@@ -1,9 +1,10 @@
 // The event that the fields of a line spell.
-ghost use Rattle.std.specs.Prelude.{◌≡◌, ◌≤◌, ◌∷◌, IfSome, Some, option_and_then};
+ghost use Rattle.std.specs.Prelude.{◌≡◌, ◌≤◌, ◌∷◌, [], IfErr, IfSome, Some, option_and_then};
 ghost use Rattle.std.specs.Result.{result_ok};
 ghost use Rattle.gcd_journal.specs.Named.{look_of};
 ghost use Rattle.gcd_text.specs.Fields.{fields_of};
-ghost use Rattle.gcd_journal.specs.Spelling.{number_in, worker_in, index_in, sender_in, time_in, bytes_in, code_in, block_in, other_block_in, source_in, of_both, turn_in, block_event, source_event, turn_event, place_in, misuse_in, by_one, by_two, by_three, by_four, by_five, event_in};
+ghost use Rattle.gcd_journal.specs.Forms.{misfit_from, fault_in};
+ghost use Rattle.gcd_journal.specs.Spelling.{Look, number_in, worker_in, index_in, sender_in, time_in, bytes_in, code_in, block_in, other_block_in, source_in, of_both, turn_in, misuse_in, by_one, by_two, by_three, by_four, by_five, event_in};
 
 use crate::cause::{Field, JournalCause};
 use crate::names::Names;
@@ -14,7 +15,9 @@ use gcd_text::{cut_at, number};
 // What fields spell, or what is wrong with them.
 type Spelled<T> = Result<T, JournalCause>;
 
-fn misfit(place: u8, expected: Field) -> JournalCause {
+fn misfit(place: u8, expected: Field) -> JournalCause
+    ensures { result ≡ JournalCause.Misfit place expected }
+{
     JournalCause::Misfit { place, expected }
 }
 
@@ -38,7 +41,8 @@ fn number_in(field: &[u8], low: u32, high: u32) -> Option<u32>
 }
 
 fn worker_in(field: &[u8]) -> Spelled<u8>
-    ensures { result_ok result ≡ worker_in field.now }
+    ensures value { result_ok result ≡ worker_in field.now }
+    ensures cause { IfErr result (λ why. why ≡ JournalCause.Misfit 2 Field.Worker) }
 {
     match number_in(field, 0, MAX_WORKERS - 1) {
         Some(worker) => Ok(worker as u8),
@@ -47,7 +51,8 @@ fn worker_in(field: &[u8]) -> Spelled<u8>
 }
 
 fn index_in(field: &[u8]) -> Spelled<u32>
-    ensures { result_ok result ≡ index_in field.now }
+    ensures value { result_ok result ≡ index_in field.now }
+    ensures cause { IfErr result (λ why. why ≡ JournalCause.Misfit 4 Field.Index) }
 {
     match number_in(field, 0, MAX_ACTS - 1) {
         Some(index) => Ok(index),
@@ -56,7 +61,8 @@ fn index_in(field: &[u8]) -> Spelled<u32>
 }
 
 fn sender_in(field: &[u8]) -> Spelled<u8>
-    ensures { result_ok result ≡ sender_in field.now }
+    ensures value { result_ok result ≡ sender_in field.now }
+    ensures cause { IfErr result (λ why. why ≡ JournalCause.Misfit 3 Field.Sender) }
 {
     match number_in(field, 0, MAX_SENDERS - 1) {
         Some(sender) => Ok(sender as u8),
@@ -65,7 +71,8 @@ fn sender_in(field: &[u8]) -> Spelled<u8>
 }
 
 fn code_in(field: &[u8]) -> Spelled<u8>
-    ensures { result_ok result ≡ code_in field.now }
+    ensures value { result_ok result ≡ code_in field.now }
+    ensures cause { IfErr result (λ why. why ≡ JournalCause.Misfit 5 Field.Code) }
 {
     let Some((first, digits)) = field.split_first() else {
         return Err(misfit(5, Field::Code));
@@ -79,19 +86,21 @@ fn code_in(field: &[u8]) -> Spelled<u8>
     }
 }
 
-fn block_in(names: &Names, field: &[u8]) -> Spelled<Blk>
-    ensures { result_ok result ≡ block_in (look_of names.now.runs) field.now }
+fn block_in(names: &Names, field: &[u8], place: u8) -> Spelled<Blk>
+    ensures value { result_ok result ≡ block_in (look_of names.now.runs) field.now }
+    ensures cause { IfErr result (λ why. why ≡ JournalCause.Misfit place Field.Block) }
 {
     match names.run(field) {
         Some(Run::Block(b)) => Ok(b),
-        Some(Run::Source(_)) => Err(misfit(2, Field::Block)),
-        None => Err(misfit(2, Field::Block)),
+        Some(Run::Source(_)) => Err(misfit(place, Field::Block)),
+        None => Err(misfit(place, Field::Block)),
     }
 }
 
 // The block that has the name, where it is not `main`.
 fn other_block_in(names: &Names, field: &[u8]) -> Spelled<Blk>
-    ensures { result_ok result ≡ other_block_in (look_of names.now.runs) field.now }
+    ensures value { result_ok result ≡ other_block_in (look_of names.now.runs) field.now }
+    ensures cause { IfErr result (λ why. why ≡ JournalCause.Misfit 2 Field.OtherBlock) }
 {
     match names.run(field) {
         Some(Run::Block(b)) => {
@@ -105,19 +114,21 @@ fn other_block_in(names: &Names, field: &[u8]) -> Spelled<Blk>
     }
 }
 
-fn source_in(names: &Names, field: &[u8]) -> Spelled<Obj>
-    ensures { result_ok result ≡ source_in (look_of names.now.runs) field.now }
+fn source_in(names: &Names, field: &[u8], place: u8) -> Spelled<Obj>
+    ensures value { result_ok result ≡ source_in (look_of names.now.runs) field.now }
+    ensures cause { IfErr result (λ why. why ≡ JournalCause.Misfit place Field.Source) }
 {
     match names.run(field) {
-        Some(Run::Block(_)) => Err(misfit(2, Field::Source)),
+        Some(Run::Block(_)) => Err(misfit(place, Field::Source)),
         Some(Run::Source(s)) => Ok(s),
-        None => Err(misfit(2, Field::Source)),
+        None => Err(misfit(place, Field::Source)),
     }
 }
 
 // A run's name, in the third field.
 fn run_in(names: &Names, field: &[u8]) -> Spelled<Run>
-    ensures { result_ok result ≡ look_of names.now.runs field.now }
+    ensures value { result_ok result ≡ look_of names.now.runs field.now }
+    ensures cause { IfErr result (λ why. why ≡ JournalCause.Misfit 3 Field.Run) }
 {
     match names.run(field) {
         Some(run) => Ok(run),
@@ -125,16 +136,10 @@ fn run_in(names: &Names, field: &[u8]) -> Spelled<Run>
     }
 }
 
-fn turn_in(names: &Names, a: &[u8], b: &[u8]) -> Spelled<(u8, Run)>
-    ensures { result_ok result ≡ turn_in (look_of names.now.runs) a.now b.now }
-{
-    let worker = worker_in(a)?;
-    let run = run_in(names, b)?;
-    Ok((worker, run))
-}
-
+#[tactic(auto, using(crate::proofs::Formed::one_unformed))]
 fn by_one(kind: &[u8]) -> Spelled<Event>
-    ensures { result_ok result ≡ by_one kind.now }
+    ensures event { result_ok result ≡ by_one kind.now }
+    ensures cause { (look : Look) → IfErr result (λ why. fault_in look (kind.now ∷ []) ≡ Some why) }
 {
     if kind == b"halt".as_slice() {
         Ok(Event::Halt)
@@ -146,7 +151,8 @@ fn by_one(kind: &[u8]) -> Spelled<Event>
 }
 
 fn tick_in(a: &[u8]) -> Spelled<Event>
-    ensures { result_ok result ≡ option_and_then (λ t. Some (Event.Tick t)) (time_in a.now) }
+    ensures event { result_ok result ≡ option_and_then (λ t. Some (Event.Tick t)) (time_in a.now) }
+    ensures cause { (look : Look) → IfErr result (λ why. misfit_from look 2 (Field.Time ∷ []) (a.now ∷ []) ≡ Some why) }
 {
     match number_in(a, 1, MAX_TIME) {
         Some(at) => Ok(Event::Tick { at }),
@@ -155,21 +161,25 @@ fn tick_in(a: &[u8]) -> Spelled<Event>
 }
 
 fn feed_end_in(names: &Names, a: &[u8]) -> Spelled<Event>
-    ensures { result_ok result ≡ option_and_then (λ s. Some (Event.FeedEnd s)) (source_in (look_of names.now.runs) a.now) }
+    ensures event { result_ok result ≡ option_and_then (λ s. Some (Event.FeedEnd s)) (source_in (look_of names.now.runs) a.now) }
+    ensures cause { IfErr result (λ why. misfit_from (look_of names.now.runs) 2 (Field.Source ∷ []) (a.now ∷ []) ≡ Some why) }
 {
-    let src = source_in(names, a)?;
+    let src = source_in(names, a, 2)?;
     Ok(Event::FeedEnd { src })
 }
 
 fn expire_in(names: &Names, a: &[u8]) -> Spelled<Event>
-    ensures { result_ok result ≡ option_and_then (λ b. Some (Event.Expire b)) (block_in (look_of names.now.runs) a.now) }
+    ensures event { result_ok result ≡ option_and_then (λ b. Some (Event.Expire b)) (block_in (look_of names.now.runs) a.now) }
+    ensures cause { IfErr result (λ why. misfit_from (look_of names.now.runs) 2 (Field.Block ∷ []) (a.now ∷ []) ≡ Some why) }
 {
-    let blk = block_in(names, a)?;
+    let blk = block_in(names, a, 2)?;
     Ok(Event::Expire { blk })
 }
 
+#[tactic(auto, using(crate::proofs::Formed::feed_end_unfit, crate::proofs::Formed::expire_unfit, crate::proofs::Formed::two_unformed))]
 fn by_two(names: &Names, kind: &[u8], a: &[u8]) -> Spelled<Event>
-    ensures { result_ok result ≡ by_two (look_of names.now.runs) kind.now a.now }
+    ensures event { result_ok result ≡ by_two (look_of names.now.runs) kind.now a.now }
+    ensures cause { IfErr result (λ why. fault_in (look_of names.now.runs) (kind.now ∷ a.now ∷ []) ≡ Some why) }
 {
     if kind == b"tick".as_slice() {
         tick_in(a)
@@ -182,43 +192,9 @@ fn by_two(names: &Names, kind: &[u8], a: &[u8]) -> Spelled<Event>
     }
 }
 
-fn block_event(kind: &[u8], worker: u8, blk: Blk) -> Spelled<Event>
-    ensures { result_ok result ≡ block_event kind.now worker blk }
-{
-    if kind == b"start".as_slice() {
-        Ok(Event::Start { worker, blk })
-    } else if kind == b"end".as_slice() {
-        Ok(Event::End { worker, blk })
-    } else if kind == b"wake".as_slice() {
-        Ok(Event::Wake { worker, blk })
-    } else {
-        Err(misfit(3, Field::Run))
-    }
-}
-
-fn source_event(kind: &[u8], worker: u8, src: Obj) -> Spelled<Event>
-    ensures { result_ok result ≡ source_event kind.now worker src }
-{
-    if kind == b"deliver".as_slice() {
-        Ok(Event::Deliver { worker, src })
-    } else if kind == b"deliver_end".as_slice() {
-        Ok(Event::DeliverEnd { worker, src })
-    } else {
-        Err(misfit(3, Field::Run))
-    }
-}
-
-fn turn_event(kind: &[u8], worker: u8, run: Run) -> Spelled<Event>
-    ensures { result_ok result ≡ turn_event kind.now worker run }
-{
-    match run {
-        Run::Block(blk) => block_event(kind, worker, blk),
-        Run::Source(src) => source_event(kind, worker, src),
-    }
-}
-
 fn bytes_in(field: &[u8]) -> Spelled<u32>
-    ensures { result_ok result ≡ bytes_in field.now }
+    ensures value { result_ok result ≡ bytes_in field.now }
+    ensures cause { IfErr result (λ why. why ≡ JournalCause.Misfit 3 Field.Bytes) }
 {
     match number_in(field, 1, MAX_VALUE) {
         Some(bytes) => Ok(bytes),
@@ -227,77 +203,106 @@ fn bytes_in(field: &[u8]) -> Spelled<u32>
 }
 
 fn ready_in(names: &Names, a: &[u8], b: &[u8]) -> Spelled<Event>
-    ensures { result_ok result ≡ of_both (λ s n. Event.Ready s n) (source_in (look_of names.now.runs) a.now) (bytes_in b.now) }
+    ensures event { result_ok result ≡ of_both (λ s n. Event.Ready s n) (source_in (look_of names.now.runs) a.now) (bytes_in b.now) }
+    ensures cause { IfErr result (λ why. misfit_from (look_of names.now.runs) 2 (Field.Source ∷ Field.Bytes ∷ []) (a.now ∷ b.now ∷ []) ≡ Some why) }
 {
-    let src = source_in(names, a)?;
+    let src = source_in(names, a, 2)?;
     let bytes = bytes_in(b)?;
     Ok(Event::Ready { src, bytes })
 }
 
 fn accept_in(names: &Names, a: &[u8], b: &[u8]) -> Spelled<Event>
-    ensures { result_ok result ≡ of_both (λ c s. Event.Accept c s) (other_block_in (look_of names.now.runs) a.now) (sender_in b.now) }
+    ensures event { result_ok result ≡ of_both (λ c s. Event.Accept c s) (other_block_in (look_of names.now.runs) a.now) (sender_in b.now) }
+    ensures cause { IfErr result (λ why. misfit_from (look_of names.now.runs) 2 (Field.OtherBlock ∷ Field.Sender ∷ []) (a.now ∷ b.now ∷ []) ≡ Some why) }
 {
     let blk = other_block_in(names, a)?;
     let sender = sender_in(b)?;
     Ok(Event::Accept { blk, sender })
 }
 
-fn work_in(names: &Names, kind: &[u8], a: &[u8], b: &[u8]) -> Spelled<Event>
-    ensures { result_ok result ≡ option_and_then (λ turn. turn_event kind.now turn.0 turn.1) (turn_in (look_of names.now.runs) a.now b.now) }
+fn start_in(names: &Names, a: &[u8], b: &[u8]) -> Spelled<Event>
+    ensures event { result_ok result ≡ of_both (λ w x. Event.Start w x) (worker_in a.now) (block_in (look_of names.now.runs) b.now) }
+    ensures cause { IfErr result (λ why. misfit_from (look_of names.now.runs) 2 (Field.Worker ∷ Field.Block ∷ []) (a.now ∷ b.now ∷ []) ≡ Some why) }
 {
-    let (worker, run) = turn_in(names, a, b)?;
-    turn_event(kind, worker, run)
+    let worker = worker_in(a)?;
+    let blk = block_in(names, b, 3)?;
+    Ok(Event::Start { worker, blk })
 }
 
-// What is wrong with a line of a worker's turn on a run. It has no form if no such line begins with the word.
-fn cause_of_turn(kind: &[u8], cause: JournalCause) -> JournalCause {
-    let expected = if kind == b"start".as_slice() || kind == b"end".as_slice() {
-        Field::Block
-    } else if kind == b"wake".as_slice() {
-        Field::Block
-    } else if kind == b"deliver".as_slice() || kind == b"deliver_end".as_slice() {
-        Field::Source
-    } else {
-        return JournalCause::NoForm;
-    };
-    match cause {
-        JournalCause::Misfit { place: 3, .. } => misfit(3, expected),
-        _ => cause,
-    }
-}
-
-// What a line of a worker's turn on a run spells.
-fn turn_line(names: &Names, kind: &[u8], a: &[u8], b: &[u8]) -> Spelled<Event>
-    ensures { result_ok result ≡ option_and_then (λ turn. turn_event kind.now turn.0 turn.1) (turn_in (look_of names.now.runs) a.now b.now) }
+fn end_in(names: &Names, a: &[u8], b: &[u8]) -> Spelled<Event>
+    ensures event { result_ok result ≡ of_both (λ w x. Event.End w x) (worker_in a.now) (block_in (look_of names.now.runs) b.now) }
+    ensures cause { IfErr result (λ why. misfit_from (look_of names.now.runs) 2 (Field.Worker ∷ Field.Block ∷ []) (a.now ∷ b.now ∷ []) ≡ Some why) }
 {
-    match work_in(names, kind, a, b) {
-        Ok(e) => Ok(e),
-        Err(cause) => Err(cause_of_turn(kind, cause)),
-    }
+    let worker = worker_in(a)?;
+    let blk = block_in(names, b, 3)?;
+    Ok(Event::End { worker, blk })
 }
 
+fn wake_in(names: &Names, a: &[u8], b: &[u8]) -> Spelled<Event>
+    ensures event { result_ok result ≡ of_both (λ w x. Event.Wake w x) (worker_in a.now) (block_in (look_of names.now.runs) b.now) }
+    ensures cause { IfErr result (λ why. misfit_from (look_of names.now.runs) 2 (Field.Worker ∷ Field.Block ∷ []) (a.now ∷ b.now ∷ []) ≡ Some why) }
+{
+    let worker = worker_in(a)?;
+    let blk = block_in(names, b, 3)?;
+    Ok(Event::Wake { worker, blk })
+}
+
+fn deliver_in(names: &Names, a: &[u8], b: &[u8]) -> Spelled<Event>
+    ensures event { result_ok result ≡ of_both (λ w x. Event.Deliver w x) (worker_in a.now) (source_in (look_of names.now.runs) b.now) }
+    ensures cause { IfErr result (λ why. misfit_from (look_of names.now.runs) 2 (Field.Worker ∷ Field.Source ∷ []) (a.now ∷ b.now ∷ []) ≡ Some why) }
+{
+    let worker = worker_in(a)?;
+    let src = source_in(names, b, 3)?;
+    Ok(Event::Deliver { worker, src })
+}
+
+fn deliver_end_in(names: &Names, a: &[u8], b: &[u8]) -> Spelled<Event>
+    ensures event { result_ok result ≡ of_both (λ w x. Event.DeliverEnd w x) (worker_in a.now) (source_in (look_of names.now.runs) b.now) }
+    ensures cause { IfErr result (λ why. misfit_from (look_of names.now.runs) 2 (Field.Worker ∷ Field.Source ∷ []) (a.now ∷ b.now ∷ []) ≡ Some why) }
+{
+    let worker = worker_in(a)?;
+    let src = source_in(names, b, 3)?;
+    Ok(Event::DeliverEnd { worker, src })
+}
+
+#[tactic(auto, using(crate::proofs::Formed::ready_unfit, crate::proofs::Formed::accept_unfit, crate::proofs::Formed::start_unfit, crate::proofs::Formed::end_unfit, crate::proofs::Formed::wake_unfit, crate::proofs::Formed::deliver_unfit))]
 fn by_three(names: &Names, kind: &[u8], a: &[u8], b: &[u8]) -> Spelled<Event>
-    ensures { result_ok result ≡ by_three (look_of names.now.runs) kind.now a.now b.now }
+    ensures event { result_ok result ≡ by_three (look_of names.now.runs) kind.now a.now b.now }
+    ensures cause { IfErr result (λ why. fault_in (look_of names.now.runs) (kind.now ∷ a.now ∷ b.now ∷ []) ≡ Some why) }
 {
     if kind == b"ready".as_slice() {
         ready_in(names, a, b)
     } else if kind == b"accept".as_slice() {
         accept_in(names, a, b)
+    } else if kind == b"start".as_slice() {
+        start_in(names, a, b)
+    } else if kind == b"end".as_slice() {
+        end_in(names, a, b)
+    } else if kind == b"wake".as_slice() {
+        wake_in(names, a, b)
+    } else if kind == b"deliver".as_slice() {
+        deliver_in(names, a, b)
+    } else if kind == b"deliver_end".as_slice() {
+        deliver_end_in(names, a, b)
     } else {
-        turn_line(names, kind, a, b)
+        Err(JournalCause::NoForm)
     }
 }
 
 fn act_in(names: &Names, a: &[u8], b: &[u8], c: &[u8]) -> Spelled<Event>
-    ensures { result_ok result ≡ of_both (λ turn i. Event.Act turn.0 turn.1 i) (turn_in (look_of names.now.runs) a.now b.now) (index_in c.now) }
+    ensures event { result_ok result ≡ of_both (λ turn i. Event.Act turn.0 turn.1 i) (turn_in (look_of names.now.runs) a.now b.now) (index_in c.now) }
+    ensures cause { IfErr result (λ why. misfit_from (look_of names.now.runs) 2 (Field.Worker ∷ Field.Run ∷ Field.Index ∷ []) (a.now ∷ b.now ∷ c.now ∷ []) ≡ Some why) }
 {
-    let (worker, run) = turn_in(names, a, b)?;
+    let worker = worker_in(a)?;
+    let run = run_in(names, b)?;
     let index = index_in(c)?;
     Ok(Event::Act { worker, run, index })
 }
 
+#[tactic(auto, using(crate::proofs::Formed::act_unfit, crate::proofs::Formed::four_unformed))]
 fn by_four(names: &Names, kind: &[u8], a: &[u8], b: &[u8], c: &[u8]) -> Spelled<Event>
-    ensures { result_ok result ≡ by_four (look_of names.now.runs) kind.now a.now b.now c.now }
+    ensures event { result_ok result ≡ by_four (look_of names.now.runs) kind.now a.now b.now c.now }
+    ensures cause { IfErr result (λ why. fault_in (look_of names.now.runs) (kind.now ∷ a.now ∷ b.now ∷ c.now ∷ []) ≡ Some why) }
 {
     if kind == b"act".as_slice() {
         act_in(names, a, b, c)
@@ -306,19 +311,14 @@ fn by_four(names: &Names, kind: &[u8], a: &[u8], b: &[u8], c: &[u8]) -> Spelled<
     }
 }
 
-fn place_in(c: &[u8], d: &[u8]) -> Spelled<(u32, u8)>
-    ensures { result_ok result ≡ place_in c.now d.now }
+fn misuse_in(names: &Names, a: &[u8], b: &[u8], c: &[u8], d: &[u8]) -> Spelled<Event>
+    ensures event { result_ok result ≡ misuse_in (look_of names.now.runs) a.now b.now c.now d.now }
+    ensures cause { IfErr result (λ why. misfit_from (look_of names.now.runs) 2 (Field.Worker ∷ Field.Run ∷ Field.Index ∷ Field.Code ∷ []) (a.now ∷ b.now ∷ c.now ∷ d.now ∷ []) ≡ Some why) }
 {
+    let worker = worker_in(a)?;
+    let run = run_in(names, b)?;
     let index = index_in(c)?;
     let code = code_in(d)?;
-    Ok((index, code))
-}
-
-fn misuse_in(names: &Names, a: &[u8], b: &[u8], c: &[u8], d: &[u8]) -> Spelled<Event>
-    ensures { result_ok result ≡ misuse_in (look_of names.now.runs) a.now b.now c.now d.now }
-{
-    let (worker, run) = turn_in(names, a, b)?;
-    let (index, code) = place_in(c, d)?;
     Ok(Event::Misuse {
         worker,
         run,
@@ -327,8 +327,10 @@ fn misuse_in(names: &Names, a: &[u8], b: &[u8], c: &[u8], d: &[u8]) -> Spelled<E
     })
 }
 
+#[tactic(auto, using(crate::proofs::Formed::misuse_unfit, crate::proofs::Formed::five_unformed))]
 fn by_five(names: &Names, kind: &[u8], a: &[u8], b: &[u8], c: &[u8], d: &[u8]) -> Spelled<Event>
-    ensures { result_ok result ≡ by_five (look_of names.now.runs) kind.now a.now b.now c.now d.now }
+    ensures event { result_ok result ≡ by_five (look_of names.now.runs) kind.now a.now b.now c.now d.now }
+    ensures cause { IfErr result (λ why. fault_in (look_of names.now.runs) (kind.now ∷ a.now ∷ b.now ∷ c.now ∷ d.now ∷ []) ≡ Some why) }
 {
     if kind == b"misuse".as_slice() {
         misuse_in(names, a, b, c, d)
@@ -337,9 +339,10 @@ fn by_five(names: &Names, kind: &[u8], a: &[u8], b: &[u8], c: &[u8], d: &[u8]) -
     }
 }
 
-/// The event that the line spells, without its end; an `Err` exactly where it spells none.
+/// The event that the line spells, without its end; an `Err` exactly if it spells none, with what is wrong with it.
 pub fn event_in(names: &Names, line: &[u8]) -> Spelled<Event>
-    ensures { result_ok result ≡ event_in (look_of names.now.runs) (fields_of line.now) }
+    ensures event { result_ok result ≡ event_in (look_of names.now.runs) (fields_of line.now) }
+    ensures cause { IfErr result (λ why. fault_in (look_of names.now.runs) (fields_of line.now) ≡ Some why) }
 {
     match cut_at(line, b' ') {
         None => by_one(line),
@@ -349,7 +352,8 @@ pub fn event_in(names: &Names, line: &[u8]) -> Spelled<Event>
 
 // The same, where these fields are read, and the rest has at least one.
 fn from_two(names: &Names, kind: &[u8], rest: &[u8]) -> Spelled<Event>
-    ensures { result_ok result ≡ event_in (look_of names.now.runs) (kind.now ∷ fields_of rest.now) }
+    ensures event { result_ok result ≡ event_in (look_of names.now.runs) (kind.now ∷ fields_of rest.now) }
+    ensures cause { IfErr result (λ why. fault_in (look_of names.now.runs) (kind.now ∷ fields_of rest.now) ≡ Some why) }
 {
     match cut_at(rest, b' ') {
         None => by_two(names, kind, rest),
@@ -358,7 +362,8 @@ fn from_two(names: &Names, kind: &[u8], rest: &[u8]) -> Spelled<Event>
 }
 
 fn from_three(names: &Names, kind: &[u8], a: &[u8], rest: &[u8]) -> Spelled<Event>
-    ensures { result_ok result ≡ event_in (look_of names.now.runs) (kind.now ∷ a.now ∷ fields_of rest.now) }
+    ensures event { result_ok result ≡ event_in (look_of names.now.runs) (kind.now ∷ a.now ∷ fields_of rest.now) }
+    ensures cause { IfErr result (λ why. fault_in (look_of names.now.runs) (kind.now ∷ a.now ∷ fields_of rest.now) ≡ Some why) }
 {
     match cut_at(rest, b' ') {
         None => by_three(names, kind, a, rest),
@@ -367,7 +372,8 @@ fn from_three(names: &Names, kind: &[u8], a: &[u8], rest: &[u8]) -> Spelled<Even
 }
 
 fn from_four(names: &Names, kind: &[u8], a: &[u8], b: &[u8], rest: &[u8]) -> Spelled<Event>
-    ensures { result_ok result ≡ event_in (look_of names.now.runs) (kind.now ∷ a.now ∷ b.now ∷ fields_of rest.now) }
+    ensures event { result_ok result ≡ event_in (look_of names.now.runs) (kind.now ∷ a.now ∷ b.now ∷ fields_of rest.now) }
+    ensures cause { IfErr result (λ why. fault_in (look_of names.now.runs) (kind.now ∷ a.now ∷ b.now ∷ fields_of rest.now) ≡ Some why) }
 {
     match cut_at(rest, b' ') {
         None => by_four(names, kind, a, b, rest),
@@ -383,7 +389,8 @@ fn from_five(
     c: &[u8],
     rest: &[u8],
 ) -> Spelled<Event>
-    ensures { result_ok result ≡ event_in (look_of names.now.runs) (kind.now ∷ a.now ∷ b.now ∷ c.now ∷ fields_of rest.now) }
+    ensures event { result_ok result ≡ event_in (look_of names.now.runs) (kind.now ∷ a.now ∷ b.now ∷ c.now ∷ fields_of rest.now) }
+    ensures cause { IfErr result (λ why. fault_in (look_of names.now.runs) (kind.now ∷ a.now ∷ b.now ∷ c.now ∷ fields_of rest.now) ≡ Some why) }
 {
     match cut_at(rest, b' ') {
         None => by_five(names, kind, a, b, c, rest),

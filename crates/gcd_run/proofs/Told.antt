@@ -58,8 +58,8 @@ module _ (shelf : Seen ShelfState) (tells : shelf.tells ≡ true) where
   pub journal_stops : (name : Bytes) (plan : PlanView) (stop : Stop) → StopsJournal shelf name plan stop
       → Fate shelf stop (IsNoJournal shelf.before.content name plan stop)
   journal_stops name plan stop (journal_unloaded why) = fate_map shelf stop (λ is. no_journal_unloaded is) (load_stops name _ _ _ stop why)
-  journal_stops name plan stop (journal_refused text line cause loaded fault is) =
-      inr (inr (no_journal_refused text line cause (loaded_within name _ _ _ text loaded) fault is))
+  journal_stops name plan stop (journal_refused text line cause loaded caused is) =
+      inr (inr (no_journal_refused text line cause (loaded_within name _ _ _ text loaded) caused.refused is))
   journal_stops name plan stop (journal_wanting is) = inr (inl is)
 
   pub journal_held : (name : Bytes) (plan : PlanView) (h : List Event) → IsJournalAt shelf name plan h

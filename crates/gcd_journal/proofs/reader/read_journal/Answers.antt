@@ -3,7 +3,7 @@ use Rattle.gcd_history.specs.JournalText.{count_line}
 use Rattle.gcd_journal.specs.Journals.{BeginsWith}
 use Rattle.gcd_journal.specs.Named.{look_of}
 use Rattle.gcd_journal.specs.NextLine.{IsFault}
-use Rattle.gcd_journal.proofs.NextLines.{nothing_read, one_more_read, spelled_fits, whole_journal, fault_is_refused, line_length}
+use Rattle.gcd_journal.proofs.NextLines.{nothing_read, one_more_read, spelled_fits, whole_journal, fault_is_refused, fault_is_caused, line_length}
 use Rattle.gcd_journal.proofs.reader.read_journal.Goals as goal
 
 pub lines-init : goal.lines-init
@@ -33,8 +33,15 @@ pub returns-in-Fault-clause-fault : goal.returns-in-Fault-clause-fault
 returns-in-Fault-clause-fault c =
     let same : c.len.result ≡ length c.lines.events.items = omega arith in
     fault_is_refused c.args.most c.args.plan.now (look_of c.in_ok-names.names.runs) c.in_ok-names.ensures.valid c.in_ok-names.ensures.known
-    c.args.bytes.now c.lines.events.items c.lines.rest.now (c.len-in-Fault.result + 1) c.lines.invariant
-    (subst (λ n. IsFault c.args.most (look_of c.in_ok-names.names.runs) c.lines.rest.now n) same c.in-Fault.ensures) (omega arith)
+    c.args.bytes.now c.lines.events.items c.lines.rest.now (c.len-in-Fault.result + 1) c.in-Fault.cause c.lines.invariant
+    (subst (λ n. IsFault c.args.most (look_of c.in_ok-names.names.runs) c.lines.rest.now n c.in-Fault.cause) same c.in-Fault.ensures) (omega arith)
+
+pub returns-in-Fault-clause-cause : goal.returns-in-Fault-clause-cause
+returns-in-Fault-clause-cause c =
+    let same : c.len.result ≡ length c.lines.events.items = omega arith in
+    fault_is_caused c.args.most c.args.plan.now (look_of c.in_ok-names.names.runs) c.in_ok-names.ensures.valid c.in_ok-names.ensures.known
+    c.args.bytes.now c.lines.events.items c.lines.rest.now (c.len-in-Fault.result + 1) c.in-Fault.cause c.lines.invariant
+    (subst (λ n. IsFault c.args.most (look_of c.in_ok-names.names.runs) c.lines.rest.now n c.in-Fault.cause) same c.in-Fault.ensures) (omega arith)
 
 pub returns-in-Fault-clause-near : goal.returns-in-Fault-clause-near
 returns-in-Fault-clause-near c = let near = c.lines.invariant.near in omega arith
