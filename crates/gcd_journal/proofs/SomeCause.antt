@@ -62,9 +62,11 @@ module _ (plan : PlanView) (valid : IsPlan plan) where
       (cause, IsCauseAt.odd line more (run_named plan) cut (alone line own) (named_look plan valid) is)
   cause_of_line rest line more None cut own is =
       let spelled = faultless_spells (run_named plan) (fields_of line) is in
-      let its = line_is_its 0 plan (run_named plan) valid (named_look plan valid) line spelled.0 spelled.1 in
-      (TooMany, IsCauseAt.full spelled.0 its.0
-      (record { rest = more; whole = cut ∙ ap (λ l. l ++ 10 ∷ more) (sym its.1) ∙ sym (line_and_rest plan valid spelled.0 more) }) refl)
+      let its = line_is_its 0 plan (run_named plan) valid (named_look plan valid) line spelled.0 spelled.1 in (
+        TooMany,
+        IsCauseAt.full spelled.0 its.0
+            (record { rest = more; whole = cut ∙ ap (λ l. l ++ 10 ∷ more) (sym its.1) ∙ sym (line_and_rest plan valid spelled.0 more) }) refl,
+      )
 
   some_cause_at : (rest : List ℕ) → (cause : JournalCause) × IsCauseAt plan rest cause
   some_cause_at rest = elim (first_line rest) [
