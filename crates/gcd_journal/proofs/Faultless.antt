@@ -1,15 +1,14 @@
 -- The fields of a line with which nothing is wrong spell an event.
-use Rattle.std.proofs.Common.{◌≡◌, ℕ, ◌+◌, ◌==◌, Bool, true, false, if◌then◌else◌, List, [], ◌∷◌, length, Option, Some, None, refl, ap, ◌∙◌, arith, codes}
+use Rattle.std.proofs.Common.{◌≡◌, ℕ, ◌==◌, Bool, true, false, if◌then◌else◌, List, [], ◌∷◌, length, Option, Some, None, refl, ap, ◌∙◌, arith, codes}
 use Rattle.std.specs.Option.{is_some}
 use Rattle.std.specs.Str.{bytes_eq}
 use Rattle.std.proofs.lemmas.Bool.{ne_eqb}
 use Rattle.std.proofs.lemmas.Slice.Eq.{bytes_eq-Decides}
 use Rattle.gcd_event.specs.declared.event.Event.{Event}
 use Rattle.gcd_event.specs.declared.event.Event.TheVariants.{Start, Act as Acted, Wake, End, Deliver, DeliverEnd, Tick, Ready, FeedEnd, Misuse, Halt, Expire, Accept, Shut}
-use Rattle.gcd_journal.specs.declared.cause.Field.{Field}
 use Rattle.gcd_journal.specs.declared.cause.Field.TheVariants.{Worker, Block, OtherBlock, Source, Run, Index, Sender, Time, Bytes, Code}
 use Rattle.gcd_journal.specs.declared.cause.JournalCause.{JournalCause}
-use Rattle.gcd_journal.specs.Forms.{form_of, fault_by, fault_in}
+use Rattle.gcd_journal.specs.Forms.{fault_by, fault_in}
 use Rattle.gcd_journal.specs.Spelling.{Look, worker_in, index_in, sender_in, time_in, bytes_in, code_in, block_in, other_block_in, source_in, event_in}
 use Rattle.gcd_journal.proofs.Formed.{form_cases}
 
