@@ -6,8 +6,10 @@ pub mod Numbers
 pub mod Spelled
 pub mod SpelledBack
 pub mod Formed
+pub mod Faultless
 pub mod OneWay
 pub mod OneCause
+pub mod SomeCause
 pub mod LawfulSpoken
 pub mod NextLines
 pub mod FirstBarred

@@ -31,7 +31,7 @@ count_cut : (n : ℕ) (x : List ℕ) → count_line n ++ x ≡ count_text n ++ 1
 count_cut n x = append_assoc (count_text n) (10 ∷ []) x
 
 -- a line has no byte 10
-alone : (text : List ℕ) → is_line text ≡ true → IsWithout 10 text
+pub alone : (text : List ℕ) → is_line text ≡ true → IsWithout 10 text
 alone [] line i within = absurd (omega arith)
 alone (c ∷ text) line zero within = eqb-false c 10 (not-true (c == 10) (and_parts (not (c == 10)) (is_line text) line).0)
 alone (c ∷ text) line (suc i) within = alone text (and_parts (not (c == 10)) (is_line text) line).1 i (omega arith)
@@ -108,7 +108,7 @@ nothing_read most plan text = record { front = refl; spoken = λ i e at. cc; few
 
 module _ (most : ℕ) (plan : PlanView) (look : Look) (valid : IsPlan plan) (knows : IsLookUp plan look) where
   -- a line that spells an event is the event's
-  line_is_its : (line : List ℕ) (e : Event) → event_in look (fields_of line) ≡ Some e → IsSpoken plan e × (text_of plan e ≡ line)
+  pub line_is_its : (line : List ℕ) (e : Event) → event_in look (fields_of line) ≡ Some e → IsSpoken plan e × (text_of plan e ≡ line)
   line_is_its line e at =
       let back = spelled_back plan look valid knows.sound (fields_of line) e at in
       (back.0, ap (join_with_byte 32) back.1 ∙ join_with_byte-slice_split 32 line)

@@ -15,7 +15,8 @@
 //! | [`write_report_by`] | the same by a machine that stands for the events; it takes no step of a machine where no object of the plan is a source |
 //! | [`jobs_report`] | the report of a run of a caller's own jobs (`jobs_report`), by a machine that stands for the events, or out of memory |
 //! | [`laws::journals_are_read_one_way`] | a text is a journal of one list of events at most, and then of no line at fault |
-//! | [`laws::refused_lines_have_one_cause`] | the first line at fault has one cause |
+//! | [`laws::refused_lines_have_one_cause`] | the first line at fault has exactly one cause |
+//! | [`laws::faultless_lines_are_events`] | nothing is wrong with a line exactly if it is an event's |
 //! | [`laws::written_journals_are_read`], [`laws::lawful_events_are_spoken`] | what is written is a journal, whatever follows it; lawful events have lines |
 //! | [`laws::one_event_is_barred_first`] | events have at most one first that is not permitted, and lawful ones have none |
 //!

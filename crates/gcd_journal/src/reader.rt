@@ -112,9 +112,8 @@ fn add(events: &mut Vec<Entry>, e: Event) -> Result<(), AllocError>
 
 /// The events of a journal of the plan, at most `most`: those of the text's front up to its line `events N`, after which nothing is read.
 /// `Refused` names exactly the first line at fault: one that is no event's line with fitting fields and names of the plan, a
-/// line `events N` with another number, an event more than `most`, a line that lacks its end, or the line after the last. Its cause is
-/// that line's.
-/// The line is at most one past the text's bytes. `Memory` comes only where memory runs out. A name costs one look-up.
+/// line `events N` with another number, an event more than `most`, a line that lacks its end, or the line after the last. The cause is
+/// that of this line. The line is at most one past the text's bytes. `Memory` comes only where memory runs out. A name costs one look-up.
 pub fn read_journal(
     alloc: Global,
     plan: &Plan,
