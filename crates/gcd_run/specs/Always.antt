@@ -75,7 +75,7 @@ abbrev pub HoldsText : (content : Bytes → Option Bytes) → (name text : Bytes
 HoldsText content name text = within_limit 0 long_journal max_file_bytes (content name) ≡ Ok text
 
 -- why there is no journal of the plan under this name: it can't be loaded, where line 0 is the journal as a whole; or a line of
--- it is at fault
+-- it is at fault, whatever cause the stop names, since the end that is told has no cause
 pub data IsNoJournal (content : Bytes → Option Bytes) (name : Bytes) (plan : PlanView) (stop : Stop) : Type 0 where
   unloaded : within_limit 0 long_journal max_file_bytes (content name) ≡ Err stop → IsNoJournal content name plan stop
   refused : (text : Bytes) (line : ℕ) (cause : JournalCause) → HoldsText content name text → IsRefusedAt max_events plan text line
