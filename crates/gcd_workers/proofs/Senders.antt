@@ -176,11 +176,22 @@ module _ {J X : Type 0} (gives : J → ℕ → ℕ → Type 0) (sent : X → ℕ
       → 0 < n → n ≤ d.workers → RunsFront gives sent (record d { workers = n }) f i poller clock ran → RunsFront gives sent d f i poller clock ran
   runs_front_of_fewer d n f i poller clock ran some few left =
       let run = left.run in
-      record left {
-        run = record run {
+      record {
+        run = record {
+          lawful = run.lawful;
+          ended = run.ended;
+          few = run.few;
           by = λ k e at. let by = run.by k e at in omega (arith, few, by);
           chosen = λ one. run.chosen (omega (arith, some, few, one));
+          called = run.called;
+          timely = run.timely;
+          heard = run.heard;
         };
+        state_is = left.state_is;
+        given = left.given;
+        callers = left.callers;
+        all = left.all;
+        why_shut = left.why_shut;
       }
 
 module _ {J X : Type 0} (gives : J → ℕ → ℕ → Type 0) (sent : X → ℕ → Type 0) where

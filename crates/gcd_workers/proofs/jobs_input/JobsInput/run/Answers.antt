@@ -32,17 +32,17 @@ returns-in-Ok-close-clause-ran g c =
     let timed : Seen ClockState = record { tells = g.C.Clock.tells; before = g.C.Clock.state c.args.clock.now; after = g.C.Clock.state c.run.new.clock } in
     let last = c.in-Ok-run.ensures in
     let asked = c.args.self in
-    let given : JobsInput g.J.Denot = record asked { workers = c.hands_for.result } in
-    runs_front_of_fewer g.J.Job.gives g.X.Sent.gives asked c.hands_for.result c.args.front.now c.run.new.intake told timed c.in-Ok-close.run' c.hands_for.ensures.some c.hands_for.ensures.few
-    (runs_front g.J.Job.gives g.X.Sent.gives c.in-Ok-open.board c.new-team.result.pool.now.board.now c.in-Ok-run.last given (length c.new-team.result.hands.items)
+    let given : JobsInput g.row.J.Denot = record asked { workers = c.hands_for-workers.result } in
+    runs_front_of_fewer g.J.Job.gives g.X.Sent.gives asked c.hands_for-workers.result c.args.front.now c.run.new.intake told timed c.in-Ok-close.run' c.hands_for-workers.ensures.some c.hands_for-workers.ensures.few
+    (runs_front g.J.Job.gives g.X.Sent.gives c.in-Ok-open.board c.new-team.result.pool.now.board.now c.in-Ok-run.left.0 given (length c.new-team.result.hands.items)
     c.args.front.now c.run.new.intake told timed c.in-Ok-close.run'
     (ap (λ (p : Pool _). p.board.now) c.new-team.ensures.pool ∙ c.new-pool.ensures.board) last.pass c.in-Ok-open.ensures.plan (ap (λ l. l.most) c.in-Ok-open.ensures.limits)
     (c.new-team.ensures.count ∙ ap (λ l. l.workers) (limits_along c.new-pool.ensures.board ∙ c.in-Ok-open.ensures.limits)) c.in-Ok-close.ensures.journal c.in-Ok-open.ensures.jobs
     c.requires.jobs c.in-Ok-close.ensures.values last.admitted last.ran c.in-Ok-close.ensures.state)
 
-pub returns-then-clause-ran : goal.returns-then-clause-ran
-returns-then-clause-ran g c =
+pub returns-then-workers-eq1-clause-ran : goal.returns-then-workers-eq1-clause-ran
+returns-then-workers-eq1-clause-ran g c =
     IfOk-weaker c.run_by_one.result _ _ (λ run is.
-    runs_front_of_fewer g.J.Job.gives g.X.Sent.gives c.args.self c.hands_for.result c.args.front.now c.run_by_one.new.intake _ _ run
-    c.hands_for.ensures.some c.hands_for.ensures.few is)
+    runs_front_of_fewer g.J.Job.gives g.X.Sent.gives c.args.self c.hands_for-workers.result c.args.front.now c.run_by_one.new.intake _ _ run
+    c.hands_for-workers.ensures.some c.hands_for-workers.ensures.few is)
     c.run_by_one.ensures.ran
