@@ -1,7 +1,8 @@
 #!/usr/bin/env bash
-# Times jobs from outside: 1 and 8 senders, each in a thread of its own, send 4,096 jobs in all, which 1 and 4 workers run on one serial
-# queue. The peer is Boost.Asio, if it is installed (Debian's libboost-dev): as many threads post to a strand over as many workers
-# (bench/peers/asio_front.cpp). The senders begin once the run is under way.
+# Times jobs from outside: 1 and 8 senders, each in a thread of its own, send 4,096 jobs in all to one serial queue, which at most 1 and 4
+# workers run. `JobsInput::run` makes one worker, since a serial queue runs one job at a time. The peer is Boost.Asio, if it is installed
+# (Debian's libboost-dev): as many threads post to a strand over 1 and 4 workers (bench/peers/asio_front.cpp). The senders begin once the
+# run is under way.
 #
 # Throughput is nanoseconds a job, from the first send to the end of the run, with the journal and the values whole. Each process gives
 # the least and the median of its nine runs. Five processes take turns with the peer's, and the least of the least times and the median of
